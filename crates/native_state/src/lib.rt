@@ -3,6 +3,9 @@
 
 ghost use Rattle.std.specs.Prelude.{◌≡◌, pos};
 
+mod made;
+
+pub use made::Made;
 use shadow_frame::Point;
 
 /// The native state of a family: how often it changed, and a point.

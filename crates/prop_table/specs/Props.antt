@@ -8,3 +8,7 @@ PropList = List (Option ℤ)
 -- the number in a row, None where it is absent
 abbrev pub value_at : PropList → ℕ → Option ℤ
 value_at props row = slice_index_or props row None
+
+-- a change of some rows: each is unnamed, or named with the number that it is to have
+abbrev pub EditList : Type 0
+EditList = List (Option (Option ℤ))

@@ -1,0 +1,23 @@
+-- Counts of what was made.
+use Rattle.std.specs.Prelude.{ℕ, ◌+◌, ◌-◌, ◌^◌, max, min}
+
+-- a count that rises by a number, and stands still at the last value that 64 bits hold
+abbrev pub raised : ℕ → ℕ → ℕ
+raised count by = max count (min (count + by) (2 ^ 64 - 1))
+
+-- the nodes, and the families in new pages
+pub record MadeCounts : Type 0 where
+  pub nodes : ℕ
+  pub families : ℕ
+
+-- the counts before anything is made
+abbrev pub nothing_made : MadeCounts
+nothing_made = record { nodes = 0; families = 0 }
+
+-- the counts after that many more nodes
+abbrev pub nodes_more : MadeCounts → ℕ → MadeCounts
+nodes_more made by = record { nodes = raised made.nodes by; families = made.families }
+
+-- the counts after one more node
+abbrev pub one_node_more : MadeCounts → MadeCounts
+one_node_more made = nodes_more made 1
