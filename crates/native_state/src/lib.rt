@@ -27,3 +27,14 @@ impl StateCell {
         }
     }
 }
+
+/// A change of a family's native state.
+#[derive(Clone, Copy, Debug, PartialEq, Eq)]
+pub enum StateChange {
+    /// Puts the point there.
+    Set { point: Point },
+    /// Moves the point by that much.
+    Add { by: Point },
+    /// Puts the point there where the cell changed that often.
+    SetIf { count: u64, point: Point },
+}

@@ -6,3 +6,5 @@ pub mod Frames
 pub mod Falls
 pub mod View
 pub mod ViewFalls
+pub mod Find
+pub mod Edit

@@ -1,0 +1,42 @@
+-- Host trees and mutations as plain data.
+use Rattle.std.specs.Prelude.{ℕ, List, map}
+use Rattle.host_views.specs.declared.HostView.{HostView}
+use Rattle.host_views.specs.declared.PlacedView.{PlacedView}
+use Rattle.host_views.specs.declared.HostTree.{HostTree}
+use Rattle.host_views.specs.declared.Mutation.{Mutation}
+use Rattle.host_views.specs.declared.Mutation.TheVariants.{Create, Delete, Insert, Remove, Update}
+
+-- a view at its place; parent 0 is the root
+pub record PlainPlacedView : Type 0 where
+  pub tag : ℕ
+  pub parent : ℕ
+  pub index : ℕ
+  pub view : HostView
+
+-- a host tree: its views in host preorder
+abbrev pub PlainHostTree : Type 0
+PlainHostTree = List PlainPlacedView
+
+-- a change of the platform's views
+pub data PlainMutation : Type 0 where
+  create : ℕ → HostView → PlainMutation
+  delete : ℕ → PlainMutation
+  insert : (parent tag index : ℕ) → PlainMutation
+  remove : (parent tag index : ℕ) → PlainMutation
+  update : ℕ → HostView → PlainMutation
+
+-- a placed view without its pointer
+abbrev pub plain_placed : PlacedView → PlainPlacedView
+plain_placed placed = record { tag = placed.tag; parent = placed.parent; index = placed.index; view = placed.view.value }
+
+-- the views of a tree without their pointers
+abbrev pub plain_tree : HostTree → PlainHostTree
+plain_tree tree = map plain_placed tree.views
+
+-- a mutation without its pointers
+abbrev pub plain_mutation : Mutation → PlainMutation
+plain_mutation (Create tag view) = create tag view.value
+plain_mutation (Delete tag) = delete tag
+plain_mutation (Insert parent tag index) = insert parent tag index
+plain_mutation (Remove parent tag index) = remove parent tag index
+plain_mutation (Update tag view) = update tag view.value

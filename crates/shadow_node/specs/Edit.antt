@@ -1,0 +1,14 @@
+-- A node with a change.
+use Rattle.std.specs.Prelude.{ℕ, ℤ, List, Option, unwrap_or}
+use Rattle.prop_table.specs.Props.{merged}
+use Rattle.shadow_node.specs.declared.NodeEdit.{NodeEdit}
+use Rattle.shadow_node.specs.Fields.{NodeFields}
+
+-- the named rows, and the label where one is given, are changed, and all else is as before
+abbrev pub edited : NodeEdit → NodeFields → NodeFields
+edited change fields = record {
+  tag = fields.tag;
+  kind = fields.kind;
+  props = merged fields.props change.rows;
+  label = unwrap_or change.label fields.label;
+}

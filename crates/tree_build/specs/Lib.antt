@@ -1,0 +1,4 @@
+pub mod Script
+pub mod Resolved
+pub mod WrittenViews
+pub mod Unsettled

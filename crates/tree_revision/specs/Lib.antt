@@ -1,0 +1,5 @@
+pub mod Settled
+pub mod Records
+pub mod Script
+pub mod Revisions
+pub mod History

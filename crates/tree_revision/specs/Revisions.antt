@@ -1,0 +1,62 @@
+-- Revisions as plain data: a commit is a function from one revision to the next.
+use Rattle.std.specs.Prelude.{ℕ, ◌-◌, List, [], ◌∷◌, length, slice_index_or, nat_eq, if◌then◌else◌}
+use Rattle.std.specs.Ordering.{nat_cmp}
+use Rattle.std.specs.FinMap as map
+use Rattle.shadow_frame.specs.declared.Size.{Size}
+use Rattle.shadow_kinds.specs.declared.Kind.{Kind}
+use Rattle.shadow_node.specs.Forest.{PlainForest, none, node, preorder}
+use Rattle.shadow_node.specs.Fields.{NodeFields}
+use Rattle.shadow_node.specs.declared.NodeEdit.{NodeEdit}
+use Rattle.shadow_node.specs.Edit.{edited}
+use Rattle.tree_build.specs.Resolved.{resolved}
+use Rattle.tree_revision.specs.Records.{PlainOp, complete, state, props, resize, stop, suspend, resume, PlainRecord}
+
+-- a surface's size, its forest, and the kind of each tag that was ever mounted; a revision has no frames and no states of its own
+pub record PlainRevision : Type 0 where
+  pub size : Size
+  pub forest : PlainForest NodeFields
+  pub families : map.FinMap nat_cmp Kind
+
+-- a surface before its first commit
+abbrev pub opening : Size → PlainRevision
+opening size = record { size = size; forest = none; families = map.empty }
+
+-- the families, and those of these nodes that are new
+abbrev pub families_with : map.FinMap nat_cmp Kind → List NodeFields → map.FinMap nat_cmp Kind
+families_with families [] = families
+families_with families (fields ∷ others) = families_with (map.insert families fields.tag fields.kind) others
+
+-- a forest with a change of the nodes of that tag
+abbrev pub edited_at : ℕ → NodeEdit → PlainForest NodeFields → PlainForest NodeFields
+edited_at tag change none = none
+edited_at tag change (node fields children siblings) =
+    node (if nat_eq fields.tag tag then edited change fields else fields) (edited_at tag change children) (edited_at tag change siblings)
+
+-- the revision with that forest, whose new tags become families
+abbrev pub with_forest : PlainRevision → PlainForest NodeFields → PlainRevision
+with_forest front forest = record { size = front.size; forest = forest; families = families_with front.families (preorder forest) }
+
+-- the revision after a change of the front, by a caller that holds that revision
+abbrev pub revision_after : PlainOp → (front held : PlainRevision) → PlainRevision
+revision_after (complete nodes) front held = with_forest front (resolved held.forest nodes)
+revision_after (state tag change) front held = front
+revision_after (props tag change) front held =
+    record { size = front.size; forest = edited_at tag change front.forest; families = front.families }
+revision_after (resize size) front held = record { size = size; forest = front.forest; families = front.families }
+revision_after stop front held = record { size = front.size; forest = none; families = front.families }
+revision_after suspend front held = front
+revision_after resume front held = front
+
+-- of revisions with the newest first, the one of that number; above the newest there is none, and it counts
+abbrev pub revision_at : Size → List PlainRevision → ℕ → PlainRevision
+revision_at size past number = slice_index_or past (length past - 1 - number) (opening size)
+
+-- the revisions after more records, with the newest first
+abbrev pub revisions_from : Size → List PlainRevision → List PlainRecord → List PlainRevision
+revisions_from size past [] = past
+revisions_from size past (entry ∷ entries) =
+    revisions_from size (revision_after entry.op (slice_index_or past 0 (opening size)) (revision_at size past entry.held) ∷ past) entries
+
+-- the revision of a list of records, on a surface of that first size
+abbrev pub revision_of : Size → List PlainRecord → PlainRevision
+revision_of size entries = slice_index_or (revisions_from size (opening size ∷ []) entries) 0 (opening size)

@@ -1,0 +1,8 @@
+//! Revisions of a surface, and the records that lead from one to the next.
+#![tactic(auto)]
+
+mod record;
+mod revision;
+
+pub use record::{Answer, Cancel, Op, Record};
+pub use revision::Revision;

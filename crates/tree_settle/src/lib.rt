@@ -1,0 +1,2 @@
+//! Settling: each node gets its frame.
+#![tactic(auto)]

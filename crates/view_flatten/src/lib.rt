@@ -1,0 +1,2 @@
+//! Flattening: the host tree of a forest.
+#![tactic(auto)]

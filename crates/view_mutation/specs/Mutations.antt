@@ -1,0 +1,81 @@
+-- The mutations that lead from one host tree to another: five lists, one after the other.
+use Rattle.std.specs.Prelude.{ℕ, ◌+◌, List, [], ◌∷◌, ◌++◌, Bool, true, false, not, Option, Some, None, nat_eq, if◌then◌else◌, filter, map, drop}
+use Rattle.std.specs.List.{flat_map, list_any}
+use Rattle.host_views.specs.declared.HostView.{HostView}
+use Rattle.host_views.specs.Plain.{PlainPlacedView, PlainHostTree, PlainMutation, create, delete, insert, remove, update}
+use Rattle.host_views.specs.Same.{is_same_view}
+
+-- the tags of a host tree
+abbrev pub host_tags : PlainHostTree → List ℕ
+host_tags tree = map (λ placed. placed.tag) tree
+
+-- the host parents of a tree: the root, and then each view in host preorder
+abbrev pub host_parents : PlainHostTree → List ℕ
+host_parents tree = 0 ∷ host_tags tree
+
+-- the tags of a host parent's children, in their order
+abbrev pub children_at : PlainHostTree → ℕ → List ℕ
+children_at tree parent = host_tags (filter (λ placed. nat_eq placed.parent parent) tree)
+
+-- how long the longest equal prefix of two lists is
+abbrev pub common_prefix : List ℕ → List ℕ → ℕ
+common_prefix [] ys = 0
+common_prefix (x ∷ xs) [] = 0
+common_prefix (x ∷ xs) (y ∷ ys) = if nat_eq x y then common_prefix xs ys + 1 else 0
+
+-- how many children of a host parent stay: the longest prefix of its children that is equal in both trees
+abbrev pub staying : (old new : PlainHostTree) → ℕ → ℕ
+staying old new parent = common_prefix (children_at old parent) (children_at new parent)
+
+-- removes of these children of a host parent, which begin at that index, with indexes falling
+abbrev pub removes_from : (parent index : ℕ) → List ℕ → List PlainMutation
+removes_from parent index [] = []
+removes_from parent index (tag ∷ tags) = removes_from parent (index + 1) tags ++ remove parent tag index ∷ []
+
+-- inserts of these children of a host parent, which begin at that index, with indexes rising
+abbrev pub inserts_from : (parent index : ℕ) → List ℕ → List PlainMutation
+inserts_from parent index [] = []
+inserts_from parent index (tag ∷ tags) = insert parent tag index ∷ inserts_from parent (index + 1) tags
+
+-- the removes at one host parent: its old children after those that stay
+abbrev pub removes_at : (old new : PlainHostTree) → ℕ → List PlainMutation
+removes_at old new parent = removes_from parent (staying old new parent) (drop (staying old new parent) (children_at old parent))
+
+-- the inserts at one host parent: its new children after those that stay
+abbrev pub inserts_at : (old new : PlainHostTree) → ℕ → List PlainMutation
+inserts_at old new parent = inserts_from parent (staying old new parent) (drop (staying old new parent) (children_at new parent))
+
+-- whether a tree has a view of that tag
+abbrev pub has_tag : PlainHostTree → ℕ → Bool
+has_tag tree tag = list_any (λ placed. nat_eq placed.tag tag) tree
+
+-- the view of a tag
+abbrev pub view_at : PlainHostTree → ℕ → Option HostView
+view_at [] tag = None
+view_at (placed ∷ others) tag = if nat_eq placed.tag tag then Some placed.view else view_at others tag
+
+-- whether a view differs from the one that its tag had
+abbrev pub is_other_view : Option HostView → HostView → Bool
+is_other_view None view = false
+is_other_view (Some was) view = not (is_same_view was view)
+
+-- deletes of the tags of the old tree that are not in the new one, in old host preorder
+abbrev pub deletes : (old new : PlainHostTree) → List PlainMutation
+deletes old new = map (λ placed. delete placed.tag) (filter (λ placed. not (has_tag new placed.tag)) old)
+
+-- creates of the tags of the new tree that are not in the old one, in new host preorder
+abbrev pub creates : (old new : PlainHostTree) → List PlainMutation
+creates old new = map (λ placed. create placed.tag placed.view) (filter (λ placed. not (has_tag old placed.tag)) new)
+
+-- updates of the tags in both whose views differ, in new host preorder
+abbrev pub updates : (old new : PlainHostTree) → List PlainMutation
+updates old new = map (λ placed. update placed.tag placed.view) (filter (λ placed. is_other_view (view_at old placed.tag) placed.view) new)
+
+-- what leads from one host tree to another: removes, deletes, creates, updates, inserts
+abbrev pub mutations_between : (old new : PlainHostTree) → List PlainMutation
+mutations_between old new =
+    flat_map (removes_at old new) (host_parents old)
+    ++ deletes old new
+    ++ creates old new
+    ++ updates old new
+    ++ flat_map (inserts_at old new) (host_parents new)

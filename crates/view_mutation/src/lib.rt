@@ -1,0 +1,2 @@
+//! The mutations that lead from one host tree to another.
+#![tactic(auto)]
