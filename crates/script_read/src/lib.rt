@@ -1,13 +1,6 @@
-// A library with one function.
+//! Scripts: what is run, as it is read from JSON.
 #![tactic(auto)]
 
-ghost use Rattle.std.specs.Prelude.{◌≡◌};
-ghost use Rattle.script_read.specs.Echo.{echo_of};
+mod script;
 
-// The `ensures` clause is the contract: what `echo` returns is `echo_of` of its argument, a definition
-// in `specs/Echo.antt`, which a caller's clause can cite too.
-pub fn echo(x: usize) -> usize
-    ensures { result ≡ echo_of x }
-{
-    x
-}
+pub use script::{Act, ActorPlan, Script, ScriptFault, ScriptRefusal, Step, SurfacePlan};

@@ -4,6 +4,8 @@ use Rattle.shadow_frame.specs.declared.Size.{Size}
 use Rattle.native_state.specs.declared.StateCell.{StateCell}
 use Rattle.native_state.specs.declared.StateChange.{StateChange}
 use Rattle.native_state.specs.State.{cell_after, start_cell}
+use Rattle.shadow_node.specs.Forest.{PlainForest}
+use Rattle.shadow_node.specs.Fields.{SettledFields}
 use Rattle.shadow_node.specs.Frames.{settled_forest}
 use Rattle.tree_revision.specs.Records.{PlainOp, complete, state, props, resize, stop, suspend, resume, PlainRecord}
 use Rattle.tree_revision.specs.Revisions.{revision_of}
@@ -28,8 +30,13 @@ state_from cell (entry ∷ entries) tag = state_from (cell_with tag entry.op cel
 abbrev pub newest_state : List PlainRecord → ℕ → StateCell
 newest_state entries tag = state_from start_cell entries tag
 
+-- on a surface of that first size, the forest of a list of records, with each node's newest state and its frame
+abbrev pub settled_of : Size → List PlainRecord → PlainForest SettledFields
+settled_of first entries =
+    settled_forest (revision_of first entries).size (newest_state entries) (revision_of first entries).forest
+
 -- on a surface of that first size a revision stands for a list of records: its number is their count, and its size and forest are theirs, with each node's newest state and its frame
 pub record StandsFor (first : Size) (revision : SettledRevision) (entries : List PlainRecord) : Type 0 where
   pub number : revision.number ≡ length entries
   pub size : revision.size ≡ (revision_of first entries).size
-  pub forest : revision.forest ≡ settled_forest (revision_of first entries).size (newest_state entries) (revision_of first entries).forest
+  pub forest : revision.forest ≡ settled_of first entries

@@ -3,3 +3,4 @@ pub mod Records
 pub mod Script
 pub mod Revisions
 pub mod History
+pub mod FirstForm
