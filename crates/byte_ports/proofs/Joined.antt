@@ -1,5 +1,5 @@
 -- One text after another to a sink.
-use Rattle.std.proofs.Common.{◌≡◌, ℕ, suc, get_or, ◌+◌, ◌-◌, ◌<◌, ◌≤◌, List, [], ◌∷◌, ◌++◌, length, take, drop, arith, refl, ap, sym, ◌∙◌, length-append, append_assoc, drop-cons, add-one}
+use Rattle.std.proofs.Common.{◌≡◌, ℕ, get_or, ◌+◌, ◌-◌, ◌<◌, List, [], ◌∷◌, ◌++◌, length, take, drop, arith, refl, ap, sym, ◌∙◌, length-append, append_assoc, drop-cons, add-one}
 use Rattle.std.proofs.lemmas.List.{take-append-le, length-drop, take-append-drop, append-nil}
 use Rattle.std.proofs.Math.Seq.{take-append-add, take-add, take-suc, take-length}
 use Rattle.std.proofs.lemmas.Grind.{flat_map-append}

@@ -5,7 +5,6 @@ use Rattle.std.proofs.Math.Seq.{drop-append_seam}
 use Rattle.std.specs.Prelude.{Option, Some, None, min, Err}
 use Rattle.byte_ports.specs.declared.source.ReadRefusal.{ReadRefusal}
 use Rattle.byte_ports.specs.declared.source.ReadRefusal.TheVariants.{Failed as ReadFailed, Memory}
-use Rattle.byte_ports.specs.Counts.{Rose}
 use Rattle.byte_ports.specs.Sources.{SourceView, put_before, left_after, IsToldAs, IsLongerThan, Reads, KeepsPiece, TookWhole, TookBeyond, TookPiece, Took}
 
 -- what is held, and then a piece
@@ -82,12 +81,15 @@ took_beyond old new held limit e faults full = record {
 pub took_refused : (old between new : SourceView) (held kept : List ℕ) (limit room : ℕ) (refusal : ReadRefusal)
     → old.left ≡ put_before held between.left → old.faults ≤ between.faults → length held + room ≤ limit + 1
     → TookPiece between new held kept room (Err refusal) → Took old new limit (Err refusal)
-took_refused old between new held kept limit room ReadFailed e faults within fails = (record {
-  count = length held;
-  within = omega (arith, within);
-  left = left_of_held old.left new.left held (rw fails.left e);
-  faults = omega (arith, faults, fails.faults);
-}, omega (arith, faults, fails.rose))
+took_refused old between new held kept limit room ReadFailed e faults within fails = (
+  record {
+    count = length held;
+    within = omega (arith, within);
+    left = left_of_held old.left new.left held (rw fails.left e);
+    faults = omega (arith, faults, fails.faults);
+  },
+  omega (arith, faults, fails.rose),
+)
 took_refused old between new held kept limit room Memory e faults within loses = record {
   count = length (held ++ loses.piece);
   within = omega (arith, within, loses.within, length-append held loses.piece);

@@ -1,5 +1,5 @@
 -- A source over bytes in memory, some of whose calls fail.
-use Rattle.std.specs.Prelude.{◌≡◌, ◌==◌, ℕ, List, Bool, true, false, Option, Some, take, drop, length, min, Result, Ok, Err}
+use Rattle.std.specs.Prelude.{◌≡◌, ◌==◌, ℕ, List, Bool, true, false, Some, take, drop, length, min, Result, Ok, Err}
 use Rattle.std.specs.List.{list_any}
 use Rattle.byte_ports.specs.Counts.{raised}
 use Rattle.byte_ports.specs.Sources.{SourceView}

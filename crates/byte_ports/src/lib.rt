@@ -9,6 +9,8 @@ mod memory_source;
 mod sink;
 mod source;
 mod std_ports;
+#[cfg(test)]
+mod tests;
 
 pub use memory_sink::MemorySink;
 pub use memory_source::MemorySource;

@@ -1,8 +1,10 @@
 //! Ports over std's readers and writers: the trusted edge, which tells no bytes.
-ghost use Rattle.std.specs.Prelude.{◌≡◌};
+ghost use Rattle.std.specs.Prelude.{◌≡◌, ◌<◌, length, None, OnOk, OnErr};
+ghost use Rattle.byte_ports.specs.Counts.{raised};
 
 use crate::{Failed, Sink, Source};
 use std::io::{Read, Write};
+use std::marker::Model;
 
 /// A source over a reader of std. It tells no bytes.
 #[derive(Drop)]
@@ -11,22 +13,36 @@ pub struct StdSource<R> {
     faults: u64,
 }
 
+impl<R> Model for StdSource<R> {
+    ghost use Rattle.std.specs.Prelude.{None};
+    ghost use Rattle.byte_ports.specs.Sources.{SourceView};
+
+    ghost Value = { SourceView };
+
+    ghost view = { λ s. record { left = None; faults = s.faults } };
+}
+
 impl<R> StdSource<R> {
     /// Reads from `inner`, with no fault so far.
     pub fn start(inner: R) -> StdSource<R>
-        ensures inner { result.inner ≡ inner }
-        ensures faults { result.faults ≡ 0 }
+        ensures { result ≡ record { left = None; faults = 0 } }
     {
         StdSource { inner, faults: 0 }
     }
 }
 
 impl<R: Read> Source for StdSource<R> {
-    ghost use Rattle.std.specs.Prelude.{None};
+    ghost use Rattle.byte_ports.specs.Sources.{ReadsSome};
 
-    ghost source_view = { λ s. record { left = None; faults = s.faults } };
+    ghost source_view = { λ s. s };
 
-    fn read(&mut self, buf: &mut [u8]) -> Result<usize, Failed> {
+    /// Every error of the reader is a fault, one that may be retried too.
+    fn read(&mut self, buf: &mut [u8]) -> Result<usize, Failed>
+        requires { 0 < length buf.old }
+        ensures told { ReadsSome self.old self.new buf.new result }
+        ensures ok { OnOk result (self.new ≡ self.old) }
+        ensures err { OnErr result (self.new.faults ≡ raised self.old.faults 1) }
+    {
         match self.inner.read(buf) {
             Ok(count) => Ok(count),
             Err(_) => {
@@ -44,23 +60,36 @@ pub struct StdSink<W> {
     faults: u64,
 }
 
+impl<W> Model for StdSink<W> {
+    ghost use Rattle.std.specs.Prelude.{None};
+    ghost use Rattle.byte_ports.specs.Sinks.{SinkView};
+
+    ghost Value = { SinkView };
+
+    ghost view = { λ s. record { written = None; faults = s.faults } };
+}
+
 impl<W> StdSink<W> {
     /// Writes to `inner`, with no fault so far.
     pub fn start(inner: W) -> StdSink<W>
-        ensures inner { result.inner ≡ inner }
-        ensures faults { result.faults ≡ 0 }
+        ensures { result ≡ record { written = None; faults = 0 } }
     {
         StdSink { inner, faults: 0 }
     }
 }
 
 impl<W: Write> Sink for StdSink<W> {
-    ghost use Rattle.std.specs.Prelude.{None};
+    ghost use Rattle.byte_ports.specs.Sinks.{WritesSome};
 
-    ghost sink_view = { λ s. record { written = None; faults = s.faults } };
+    ghost sink_view = { λ s. s };
 
-    /// A write of no byte is a fault too.
-    fn write(&mut self, piece: &[u8]) -> Result<usize, Failed> {
+    /// Every error of the writer is a fault, and so is a write of no byte.
+    fn write(&mut self, piece: &[u8]) -> Result<usize, Failed>
+        requires { 0 < length piece.now }
+        ensures told { WritesSome self.old self.new piece.now result }
+        ensures ok { OnOk result (self.new ≡ self.old) }
+        ensures err { OnErr result (self.new.faults ≡ raised self.old.faults 1) }
+    {
         match self.inner.write(piece) {
             Ok(count) if count > 0 => Ok(count),
             _ => {

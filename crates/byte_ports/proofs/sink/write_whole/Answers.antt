@@ -1,4 +1,4 @@
-use Rattle.std.proofs.Common.{rules, arith}
+use Rattle.std.proofs.Common.{rules}
 use Rattle.byte_ports.proofs.Joined.{whole_taken}
 use Rattle.byte_ports.proofs.sink.write_whole.Goals as goal
 

@@ -1,4 +1,4 @@
-use Rattle.std.proofs.Common.{rules, arith, inl, inr}
+use Rattle.std.proofs.Common.{arith, inl, inr}
 use Rattle.std.proofs.lemmas.Grind.{common_steps}
 use Rattle.byte_ports.proofs.memory_sink.MemorySinkSink.write.Goals as goal
 use Rattle.byte_ports.proofs.memory_sink.MemorySinkSink.write.Goals.{then-is_listed-via-then-is_listed, then-is_listed-via-else-is_listed+then-len-self}

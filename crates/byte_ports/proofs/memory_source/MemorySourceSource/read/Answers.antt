@@ -1,4 +1,4 @@
-use Rattle.std.proofs.Common.{rules, arith, drop, refl}
+use Rattle.std.proofs.Common.{arith, drop, refl}
 use Rattle.std.proofs.lemmas.Grind.{common_steps}
 use Rattle.byte_ports.proofs.Taking.{gives_reads}
 use Rattle.byte_ports.proofs.memory_source.MemorySourceSource.read.Goals as goal
