@@ -1,3 +1,4 @@
 pub mod Props
 pub mod Text
 pub mod Table
+pub mod PairText
