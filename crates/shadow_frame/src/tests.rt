@@ -1,5 +1,7 @@
 //! Places at their edges.
 
+ghost use Rattle.std.specs.Prelude.{◌≡◌};
+
 use crate::{Axis, Point, Size, place, place_axis};
 
 fn axis(start: Option<i64>, end: Option<i64>, size: Option<i64>) -> Axis
