@@ -1,0 +1,5 @@
+pub mod InRows
+pub mod Starts
+pub mod Differences
+pub mod Names
+pub mod NodeRows
