@@ -3,3 +3,4 @@ pub mod Starts
 pub mod Differences
 pub mod Names
 pub mod NodeRows
+pub mod Widening

@@ -5,3 +5,4 @@ pub mod Rows
 pub mod Rules
 pub mod PairText
 pub mod Refusal
+pub mod Widened
