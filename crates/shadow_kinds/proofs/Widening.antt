@@ -1,11 +1,11 @@
 -- Widened version 1 props form what they formed in version 1.
-use Rattle.std.proofs.Common.{◌≡◌, ℕ, ◌<◌, ◌||◌, length, Bool, false, Option, Some, None, pos, refl, ap, arith, is_some}
+use Rattle.std.proofs.Common.{◌≡◌, ℕ, ◌<◌, length, false, refl, arith}
 use Rattle.std.proofs.Math.Bool.{or-false}
 use Rattle.prop_table.specs.Props.{PropList, value_at}
-use Rattle.prop_table.specs.declared.rows.TheConstants.{BACKGROUND, OPACITY, Z, CLIP, COLLAPSABLE, POINTER, BORDER, TEST_MARK, NATIVE_MARK, HIDDEN, ACCESSIBLE, ELEVATION, SHADOW, OUTLINE}
+use Rattle.prop_table.specs.declared.rows.TheConstants.{BACKGROUND, OPACITY, Z, CLIP, COLLAPSABLE, POINTER, BORDER, TEST_MARK, NATIVE_MARK}
 use Rattle.prop_table.specs.Widened.{widened}
 use Rattle.prop_table.proofs.Widening.{widened-kept, widened-added}
-use Rattle.shadow_kinds.specs.Traits.{is_number, is_at_least, is_below, forms_context_of, forms_view_of, is_hidden_of}
+use Rattle.shadow_kinds.specs.Traits.{forms_context_of, forms_view_of, is_hidden_of}
 use Rattle.shadow_kinds.specs.VersionOne.{v1_forms_context_of, v1_forms_view_of}
 use Rattle.shadow_kinds.specs.declared.Kind.{Kind}
 use Rattle.shadow_kinds.specs.declared.Kind.TheVariants.{View, Text, Image, Scroll, Input}

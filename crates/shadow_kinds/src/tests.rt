@@ -51,6 +51,7 @@ fn rows_turn_traits(rt: HostRuntime) {
         (rows::OUTLINE, 1, false, true, false),
         (rows::HIDDEN, 1, false, false, true),
     ] {
+        assert!(rt; row < 22);
         let Ok(props) = NODE_TABLE.set(&start, row, Some(value)) else {
             assert!(rt; false, "row {row} takes {value}");
             return;
