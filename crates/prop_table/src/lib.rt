@@ -3,6 +3,7 @@
 
 mod label;
 mod lookup;
+mod mark;
 mod props;
 pub mod rows;
 mod table;
