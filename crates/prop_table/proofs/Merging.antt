@@ -1,11 +1,13 @@
 -- What a merge holds, row by row.
-use Rattle.std.proofs.Common.{◌≡◌, ℕ, zero, suc, ℤ, List, [], ◌∷◌, ◌++◌, length, Option, Some, None, unwrap_or, slice_set, refl, ap, arith}
+use Rattle.std.proofs.Common.{◌≡◌, ℕ, zero, suc, ◌+◌, ◌<◌, ℤ, List, [], ◌∷◌, ◌++◌, length, Option, Some, None, unwrap_or, slice_set, take, refl, ap, sym, add-one, length-take-le, arith}
+use Rattle.std.proofs.Math.Seq.{take-suc}
 use Rattle.prop_table.specs.Props.{PropList}
 use Rattle.prop_table.specs.Table.{RowRule, IsInRow, AreInRows}
 use Rattle.prop_table.specs.Rules.{rule_at}
-use Rattle.prop_table.specs.Edits.{EditList, merged, edited, IsEditInRow, AreEditsInRows}
+use Rattle.prop_table.specs.Edits.{EditList, named_at, merged, edited, IsEditInRow, AreEditsInRows}
 
-merged-empty : (props : PropList) → merged props [] ≡ props
+-- an edit that ends before the first row names none
+pub merged-empty : (props : PropList) → merged props [] ≡ props
 merged-empty [] = refl
 merged-empty (value ∷ values) = refl
 
@@ -17,6 +19,15 @@ merged-more (v ∷ vs) [] None = ap (λ rest. v ∷ rest) (merged-empty vs)
 merged-more (v ∷ vs) [] (Some value) = ap (λ rest. value ∷ rest) (merged-empty vs)
 merged-more (v ∷ vs) (e ∷ es) None = ap (λ rest. unwrap_or e v ∷ rest) (merged-more vs es None)
 merged-more (v ∷ vs) (e ∷ es) (Some value) = ap (λ rest. unwrap_or e v ∷ rest) (merged-more vs es (Some value))
+
+-- one more row of an edit that is read
+pub merged-step : (props : PropList) (edit : EditList) (row : ℕ) (named : Option (Option ℤ)) → row < length edit → named ≡ named_at edit row
+    → edited (merged props (take row edit)) row named ≡ merged props (take (row + 1) edit)
+merged-step props edit row named h e =
+    let count : length (take row edit) ≡ row = length-take-le row edit (omega arith) in
+    let more : take (row + 1) edit ≡ take row edit ++ named_at edit row ∷ [] = rw add-one (take-suc edit row None h) in
+    let read = merged-more props (take row edit) (named_at edit row) in
+    rw (more, e) (sym (rw count at read))
 
 IsInRow-named : (rule : RowRule) (value : Option ℤ) (named : Option (Option ℤ)) → IsInRow rule value → IsEditInRow rule named → IsInRow rule (unwrap_or named value)
 IsInRow-named rule value None i e = i

@@ -1,6 +1,7 @@
 //! The props of a node, by a table of rows.
 #![tactic(auto)]
 
+mod edit;
 mod label;
 mod lookup;
 mod mark;
@@ -12,6 +13,7 @@ mod tables;
 mod tests;
 mod text;
 
+pub use edit::{PropEdit, widen, widen_edit};
 pub use label::{Label, LabelRefusal};
 pub use lookup::OutOfRange;
 pub use props::{Props, changed};
@@ -20,3 +22,6 @@ pub use tables::{node_table, v1_table};
 
 /// The props of a node.
 pub type NodeProps = Props<22>;
+
+/// An edit of a node's props.
+pub type EditRows = PropEdit<22>;
