@@ -16,27 +16,10 @@ ghost use Rattle.tree_settle.specs.Frames.{framed, HasRoom};
 ghost use Rattle.tree_settle.specs.Limits.{AreFramesInBounds, AreStateless, HasNoContext, IsForestInLimits, IsFrameInBounds, IsSizeInRange};
 
 use prop_table::NodeProps;
-use prop_table::rows::{BOTTOM, HEIGHT, LEFT, RIGHT, TOP, WIDTH};
-use shadow_frame::{Axis, Rect, Size, place};
+use shadow_frame::{Rect, Size, place};
+use shadow_kinds::axes_of;
 use shadow_node::{Forest, Made, NodeRef, Parts, ShadowNode};
 use std::alloc::{AllocError, Global};
-
-fn axes_of(props: &NodeProps) -> (Axis, Axis)
-    ensures x { result.0 ≡ x_axis_of props.now }
-    ensures y { result.1 ≡ y_axis_of props.now }
-{
-    let x = Axis {
-        start: props.get(LEFT),
-        end: props.get(RIGHT),
-        size: props.get(WIDTH),
-    };
-    let y = Axis {
-        start: props.get(TOP),
-        end: props.get(BOTTOM),
-        size: props.get(HEIGHT),
-    };
-    (x, y)
-}
 
 /// The frame of a node with these props in a parent of that size.
 fn frame_in(props: &NodeProps, parent: Size) -> Rect
