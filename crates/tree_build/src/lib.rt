@@ -2,6 +2,8 @@
 #![tactic(auto)]
 
 mod builds;
+#[cfg(test)]
+mod tests;
 
 pub use builds::{BuildRefusal, build};
 use prop_table::{Label, NodeProps};

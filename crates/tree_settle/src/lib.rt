@@ -15,6 +15,9 @@ ghost use Rattle.shadow_frame.specs.Place.{placed};
 ghost use Rattle.tree_settle.specs.Frames.{framed, HasRoom};
 ghost use Rattle.tree_settle.specs.Limits.{AreFramesInBounds, AreStateless, HasNoContext, IsForestInLimits, IsFrameInBounds, IsSizeInRange};
 
+#[cfg(test)]
+mod tests;
+
 use prop_table::NodeProps;
 use shadow_frame::{Rect, Size, place};
 use shadow_kinds::axes_of;
