@@ -71,6 +71,10 @@ same_views a b =
     (λ h i. record { kind = h.0.0.0.0 i; props = h.0.0.0.1 i; label = h.0.0.1 i; state = h.0.1 i; frame = h.1 i })
     (λ e. ((((ap (λ v. v.kind) e, ap (λ v. v.props) e), ap (λ v. v.label) e), ap (λ v. v.state) e), ap (λ v. v.frame) e))
 
+-- a view is the same as itself
+pub same_itself : (a : HostView) → is_same_view a a ≡ true
+same_itself a = (same_views a a).1 refl
+
 -- a test with that answer is true exactly where the views are equal
 pub told_same : (r : Bool) (a b : HostView) → r ≡ is_same_view a b → IsTrue r ↔ (a ≡ b)
 told_same r a b e = rw e (same_views a b)
