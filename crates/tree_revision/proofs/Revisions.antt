@@ -47,4 +47,4 @@ pub revision_of-next : (size : Size) (entries : List PlainRecord) (entry : Plain
 revision_of-next size entries entry h =
     ap (λ l. get_or l 0 (opening size)) (revisions_from-append size (opening size ∷ []) entries (entry ∷ []))
     ∙ ap (revision_after entry.op (revision_of size entries))
-        (revisions_from-at size entries entry.held _ h (omega (arith, length-revisions_from size (opening size ∷ []) entries)))
+    (revisions_from-at size entries entry.held _ h (omega (arith, length-revisions_from size (opening size ∷ []) entries)))

@@ -42,10 +42,10 @@ pub stands_for_complete : (first : Size) (front held next : SettledRevision) (en
     → StandsFor first next (entries ++ entry ∷ [])
 stands_for_complete first front held next entries entry nodes sf le sh op num sz forest =
     let e : revision_of first (entries ++ entry ∷ []) ≡ with_forest (revision_of first entries) (resolved (revision_of first (take entry.held entries)).forest nodes) =
-        revision_of-next first entries entry le ∙ ap (λ o. revision_after o (revision_of first entries) (revision_of first (take entry.held entries))) op in
+    revision_of-next first entries entry le ∙ ap (λ o. revision_after o (revision_of first entries) (revision_of first (take entry.held entries))) op in
     let s : front.size ≡ (revision_of first (entries ++ entry ∷ [])).size = sf.size ∙ sym (ap (λ r. r.size) e) in
     let f : resolved (contents_of held.forest) nodes ≡ (revision_of first (entries ++ entry ∷ [])).forest =
-        ap (λ x. resolved x nodes) (contents_of-stands first held (take entry.held entries) sh) ∙ sym (ap (λ r. r.forest) e) in
+    ap (λ x. resolved x nodes) (contents_of-stands first held (take entry.held entries) sh) ∙ sym (ap (λ r. r.forest) e) in
     record {
       number = omega (arith, num, sf.number, length-append entries (entry ∷ []));
       size = sz ∙ s;
