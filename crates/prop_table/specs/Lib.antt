@@ -1,3 +1,12 @@
 pub mod Props
 pub mod Text
 pub mod Table
+pub mod Rows
+pub mod Rules
+pub mod PairText
+pub mod Refusal
+pub mod Widened
+pub mod Joined
+pub mod Slots
+pub mod Edits
+pub mod Marks

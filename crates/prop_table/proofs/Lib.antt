@@ -1,0 +1,9 @@
+pub mod InRows
+pub mod Starts
+pub mod Differences
+pub mod Names
+pub mod NodeRows
+pub mod Widening
+pub mod Joined
+pub mod Slots
+pub mod Merging
