@@ -1,6 +1,12 @@
 //! Scripts: what is run, as it is read from JSON.
 #![tactic(auto)]
 
+mod grammar;
+mod limits;
+mod members;
+mod nodes;
+mod read;
 mod script;
 
+pub use read::read_script;
 pub use script::{Act, ActorPlan, Script, ScriptFault, ScriptRefusal, Step, SurfacePlan};

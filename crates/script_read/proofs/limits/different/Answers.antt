@@ -1,0 +1,9 @@
+use Rattle.std.proofs.Common.{rules, arith, sym, ap, ◌∙◌, refl}
+use Rattle.std.proofs.lemmas.Grind.{common_steps}
+use Rattle.script_read.specs.Limits.{with_numbers}
+use Rattle.script_read.proofs.Trees.{numbers_more}
+use Rattle.script_read.proofs.limits.different.Goals as goal
+
+pub loop-number-preserved : goal.loop-number-preserved
+loop-number-preserved c =
+    rw (c.in_ok-insert.ensures.keys) (sym (numbers_more c.loop-number.found.keys c.args.numbers.now c.loop-number.number-index 0 c.loop-number-test.true) ∙ c.loop-number.invariant)
