@@ -1,6 +1,14 @@
 //! Journals of runs, and their texts.
 #![tactic(auto)]
 
+
+mod answers;
+mod history;
 mod journal;
 
+mod pieces;
+
+
+
 pub use journal::{ActorPart, Journal, MountPart, StepName, StepPart, SurfacePart};
+
