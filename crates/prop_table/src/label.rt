@@ -1,6 +1,7 @@
 //! A shared text.
 
 ghost use Rattle.std.specs.Prelude.{◌≡◌, ◌≤◌, ◌<◌, [], length, IfOk, MatchResult};
+ghost use Rattle.prop_table.specs.Refusal.{refuses};
 
 use std::alloc::{AllocError, Global};
 use std::marker::Model;
@@ -13,7 +14,7 @@ pub struct Label {
 }
 
 impl Model for Label {
-    ghost use Rattle.std.specs.Prelude.{List, ℕ};
+    ghost use Rattle.std.specs.Prelude.{List, ℕ, length, ◌≤◌};
     ghost use Rattle.std.specs.Coded.{coded_list, coded_ℕ};
 
     ghost Value = { List ℕ };
@@ -23,6 +24,8 @@ impl Model for Label {
     ghost use Rattle.prop_table.specs.Text.{bytes_of};
 
     ghost view = { bytes_of };
+
+    ghost invariant = { λ label. length (bytes_of label) ≤ 256 };
 }
 
 /// Why a text is no label.
@@ -30,6 +33,16 @@ impl Model for Label {
 pub enum LabelRefusal {
     TooLong,
     Memory,
+}
+
+/// A label of a text of at most 256 bytes.
+fn copied(alloc: Global, text: &[u8]) -> Result<Label, AllocError>
+    requires { length text.now ≤ 256 }
+    ensures { IfOk result (λ label. label ≡ text.now) }
+{
+    Ok(Label {
+        bytes: Some(Arc::new(alloc, Vec::from_slice(alloc, text)?)?),
+    })
 }
 
 impl Label {
@@ -40,6 +53,20 @@ impl Label {
         Label { bytes: None }
     }
 
+    /// A text as a label. `TooLong` exactly where it has more than 256 bytes.
+    pub fn make(alloc: Global, text: &str) -> Result<Label, LabelRefusal>
+        ensures { MatchResult result (λ label. (label ≡ text.now) × (length text.now ≤ 256)) (refuses (length text.now)) }
+    {
+        if text.len() > 256 {
+            return Err(LabelRefusal::TooLong);
+        }
+        match copied(alloc, text.as_bytes()) {
+            Ok(label) => Ok(label),
+            Err(AllocError) => Err(LabelRefusal::Memory),
+        }
+    }
+
+    /// The text's bytes.
     pub fn bytes(&self) -> &[u8]
         ensures { result.now ≡ self.now }
     {

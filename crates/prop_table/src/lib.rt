@@ -3,12 +3,21 @@
 
 mod edit;
 mod label;
+mod lookup;
 mod props;
 pub mod rows;
+mod table;
+mod tables;
+#[cfg(test)]
+mod tests;
+mod text;
 
 pub use edit::PropEdit;
 pub use label::{Label, LabelRefusal};
-pub use props::Props;
+pub use lookup::OutOfRange;
+pub use props::{Props, changed};
+pub use table::{NODE_TABLE, PropTable, Row, V1, V2};
+pub use tables::{node_table, v1_table};
 
 /// The props of a node.
 pub type NodeProps = Props<22>;

@@ -1,6 +1,7 @@
 //! One optional number for each row of a table.
 
-ghost use Rattle.std.specs.Prelude.{◌≡◌, ◌<◌};
+ghost use Rattle.std.specs.Prelude.{◌≡◌, ◌≢◌, ℕ, None, ◌<◌, ◌≤◌, ◌↔◌, length, slice_set, replicate};
+ghost use Rattle.std.specs.Int.{bit_at};
 ghost use Rattle.prop_table.specs.Props.{value_at};
 
 use std::marker::Model;
@@ -12,6 +13,7 @@ pub struct Props<const N: usize> {
 }
 
 impl<const N: usize> Model for Props<N> {
+    ghost use Rattle.std.specs.Prelude.{◌≡◌, length};
     ghost use Rattle.std.specs.Coded.{coded_list, coded_option, coded_ℤ};
     ghost use Rattle.prop_table.specs.Props.{PropList};
 
@@ -21,10 +23,28 @@ impl<const N: usize> Model for Props<N> {
 
     ghost view = { λ p. p.rows };
 
+    ghost invariant = { λ p. length p.rows ≡ N };
+
     ghost inverse = { λ v. record { rows = v } };
 }
 
 impl<const N: usize> Props<N> {
+    /// No number in any row.
+    pub(crate) fn absent() -> Props<N>
+        ensures { result ≡ replicate N None }
+    {
+        Props { rows: [None; N] }
+    }
+
+    /// How many rows there are.
+    pub fn count(&self) -> usize
+        ensures value { result ≡ N }
+        ensures count { length self.now ≡ N }
+    {
+        let rows = &self.rows;
+        rows.len()
+    }
+
     /// The number in a row, `None` where it is absent.
     pub fn get(&self, row: usize) -> Option<i64>
         requires { row < N }
@@ -32,4 +52,28 @@ impl<const N: usize> Props<N> {
     {
         self.rows[row]
     }
+
+    /// Puts a number into a row, or makes it absent.
+    pub(crate) fn put(&mut self, row: usize, value: Option<i64>)
+        requires { row < N }
+        ensures value { self.new ≡ slice_set self.old row value }
+        ensures count { length self.new ≡ N }
+    {
+        self.rows[row] = value;
+    }
+}
+
+/// A number whose bit `r` is set exactly where row `r` differs.
+pub fn changed<const N: usize>(a: &Props<N>, b: &Props<N>) -> u32
+    requires { N ≤ 32 }
+    ensures rows { (row : ℕ) → row < N → (bit_at result row ≡ 1) ↔ (value_at a.now row ≢ value_at b.now row) }
+    ensures above { (row : ℕ) → N ≤ row → bit_at result row ≡ 0 }
+{
+    let mut bits = 0;
+    for row in 0..N {
+        if a.get(row) != b.get(row) {
+            bits |= 1 << row;
+        }
+    }
+    bits
 }

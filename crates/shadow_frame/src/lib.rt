@@ -1,6 +1,12 @@
 //! Whole-point geometry: points, sizes, rectangles, and how a node is placed in its parent.
 #![tactic(auto)]
 
+mod places;
+#[cfg(test)]
+mod tests;
+
+pub use places::{place, place_axis};
+
 /// A place in whole points.
 #[derive(Clone, Copy, Debug, PartialEq, Eq)]
 pub struct Point {
@@ -22,12 +28,13 @@ pub struct Rect {
     pub size: Size,
 }
 
-/// What a node says of itself along one axis.
+/// What a node says of itself along one axis, in whole points.
 #[derive(Clone, Copy, Debug, PartialEq, Eq)]
 pub struct Axis {
     /// The distance from the parent's start to the node's start.
     pub start: Option<i64>,
     /// The distance from the node's end to the parent's end.
     pub end: Option<i64>,
+    /// The node's size, which goes before what start and end leave.
     pub size: Option<i64>,
 }

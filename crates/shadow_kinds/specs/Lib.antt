@@ -1,3 +1,4 @@
 pub mod Axes
 pub mod Traits
 pub mod Words
+pub mod VersionOne

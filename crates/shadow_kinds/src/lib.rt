@@ -1,6 +1,14 @@
 //! The kinds of node, and what each forms.
 #![tactic(auto)]
 
+#[cfg(test)]
+mod tests;
+mod traits;
+mod words;
+
+pub use traits::{axes_of, forms_context, forms_view, has_state, is_hidden, is_leaf, z_of};
+pub use words::{code, from_code, from_word, word};
+
 /// What a node is.
 #[derive(Clone, Copy, Debug, PartialEq, Eq)]
 pub enum Kind {

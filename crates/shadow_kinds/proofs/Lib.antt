@@ -1,0 +1,2 @@
+pub mod AxesInRange
+pub mod Widening
