@@ -7,6 +7,7 @@ mod history;
 mod journal;
 
 mod pieces;
+mod views;
 
 
 
