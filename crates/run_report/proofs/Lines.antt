@@ -1,5 +1,5 @@
 -- The texts of lists, one line after another.
-use Rattle.std.proofs.Common.{◌≡◌, ℕ, zero, suc, get_or, ◌+◌, ◌<◌, List, [], ◌∷◌, ◌++◌, length, take, drop, map, All, arith, refl, ap, sym, ◌∙◌, subst, append_assoc, drop-cons, add-one, add-zero}
+use Rattle.std.proofs.Common.{◌≡◌, ℕ, zero, suc, get_or, ◌+◌, ◌<◌, List, [], ◌∷◌, ◌++◌, length, take, drop, map, All, arith, refl, ap, sym, ◌∙◌, subst, append_assoc, drop-cons, add-one}
 use Rattle.std.specs.List.{flat_map}
 use Rattle.std.proofs.lemmas.List.{take-append-drop, append-nil, length-take, get_or-map, length-map}
 use Rattle.std.proofs.lemmas.List.Elements.{All-get_or}

@@ -1,9 +1,8 @@
 -- The text of a report.
-use Rattle.std.specs.Prelude.{ℕ, ℤ, ◌+◌, ◌/◌, ◌%◌, List, [], ◌∷◌, ◌++◌, Option, Some, None, codes, decimal, slice_index_or, map, Bool, nat_lt, if◌then◌else◌}
+use Rattle.std.specs.Prelude.{ℕ, ℤ, ◌+◌, ◌/◌, ◌%◌, List, [], ◌∷◌, ◌++◌, Option, Some, None, codes, decimal, slice_index_or, map, nat_lt, if◌then◌else◌}
 use Rattle.std.specs.List.{flat_map}
 use Rattle.std.specs.Fmt.{signed_decimal}
 use Rattle.shadow_frame.specs.declared.Rect.{Rect}
-use Rattle.shadow_frame.specs.declared.Point.{Point}
 use Rattle.native_state.specs.declared.StateCell.{StateCell}
 use Rattle.prop_table.specs.Table.{v2_rules}
 use Rattle.prop_table.specs.PairText.{pairs_text_of}
@@ -159,9 +158,13 @@ view_text view =
 abbrev pub view_line : HostView → List ℕ
 view_line view = view_text view ++ line_end
 
+-- a word and a tag, before a view
+abbrev pub tagged_head : List ℕ → ℕ → List ℕ
+tagged_head word tag = word ++ (spaced tag ++ codes " ")
+
 -- a word, a tag and a view
 abbrev pub tagged_text : List ℕ → ℕ → HostView → List ℕ
-tagged_text word tag view = (word ++ (spaced tag ++ codes " ")) ++ view_line view
+tagged_text word tag view = tagged_head word tag ++ view_line view
 
 -- a mutation
 abbrev pub mutation_text : PlainMutation → List ℕ
@@ -173,12 +176,12 @@ mutation_text (update tag view) = tagged_text (codes "update") tag view
 
 -- who mounted, to the end of the line: the step, or nobody for the closing mount
 abbrev pub by_text : List PlainActorPart → Option StepName → List ℕ
-by_text actors None = codes " closing" ++ line_end
-by_text actors (Some step) = codes " by " ++ (name_at actors step.actor ++ (spaced step.call ++ line_end))
+by_text actors None = codes "closing\n"
+by_text actors (Some step) = codes "by " ++ (name_at actors step.actor ++ (spaced step.call ++ line_end))
 
--- the line of a mount: from which revision to which, and by whom
-abbrev pub mount_line : List PlainActorPart → (base to : ℕ) → Option StepName → List ℕ
-mount_line actors base to by = codes "transaction" ++ (spaced base ++ (spaced to ++ by_text actors by))
+-- how a mount's line begins: from which revision to which
+abbrev pub mount_head : (base to : ℕ) → List ℕ
+mount_head base to = codes "transaction" ++ (spaced base ++ (spaced to ++ codes " "))
 
 -- some mutations
 abbrev pub mutations_text : List PlainMutation → List ℕ
@@ -186,7 +189,7 @@ mutations_text mutations = flat_map mutation_text mutations
 
 -- a mount and its mutations
 abbrev pub mount_text : List PlainActorPart → PlainMount → List ℕ
-mount_text actors mount = mount_line actors mount.base mount.to mount.by ++ mutations_text mount.mutations
+mount_text actors mount = mount_head mount.base mount.to ++ (by_text actors mount.by ++ mutations_text mount.mutations)
 
 -- how the line of a view that stands at the end begins: its tag, its host parent, and its place there
 abbrev pub placed_head : (tag parent index : ℕ) → List ℕ

@@ -29,12 +29,7 @@ fn write_cause<K: Sink>(sink: &mut K, cause: Cancel) -> Result<(), Failed>
 }
 
 /// Writes where and after how many tries a step was cancelled, and why.
-fn write_cancelled<K: Sink>(
-    sink: &mut K,
-    at: u64,
-    tries: u64,
-    cause: Cancel,
-) -> Result<(), Failed>
+fn write_cancelled<K: Sink>(sink: &mut K, at: u64, tries: u64, cause: Cancel) -> Result<(), Failed>
     ensures { Writes (K.sink_view sink.old) (K.sink_view sink.new) (cancelled_head at tries ++ cause_text cause) result }
 {
     write_pieces(

@@ -6,7 +6,7 @@ ghost use Rattle.prop_table.specs.Props.{value_at};
 ghost use Rattle.prop_table.specs.Rules.{rules_of, rule_at};
 ghost use Rattle.prop_table.specs.Table.{v2_rules};
 ghost use Rattle.prop_table.specs.PairText.{pair_text_of, pairs_text_of};
-ghost use Rattle.run_report.specs.Text.{shape_text, state_text, hex_digit, hex_text, label_text, view_text, view_line};
+ghost use Rattle.run_report.specs.Text.{shape_text, state_text, hex_digit, hex_pair, hex_text, label_text, view_text, view_line};
 
 use crate::pieces::{Piece, write_pieces};
 use byte_ports::{Failed, Sink, write_whole};
@@ -75,12 +75,7 @@ fn write_row<K: Sink>(
 
 /// Writes the rows of the props that are not at their start.
 #[tactic(auto, using(byte_ports::proofs::Joined::whole_none))]
-fn write_rows<K: Sink>(
-    sink: &mut K,
-    table: &PropTable<22>,
-    props: &NodeProps,
-) -> Result<(), Failed>
-    requires { length (rules_of table.now) ≡ 22 }
+fn write_rows<K: Sink>(sink: &mut K, table: &PropTable<22>, props: &NodeProps) -> Result<(), Failed>
     ensures { Writes (K.sink_view sink.old) (K.sink_view sink.new) (pairs_text_of (rules_of table.now) props.now) result }
 {
     for row in 0..22 {
@@ -104,13 +99,20 @@ fn hex_digit(n: u8) -> u8
     if n < 10 { b'0' + n } else { b'a' - 10 + n }
 }
 
-/// Writes bytes in lower-case hexadecimal, two digits each.
+/// Writes a byte in lower-case hexadecimal, two digits.
+fn write_byte<K: Sink>(sink: &mut K, byte: u8) -> Result<(), Failed>
+    ensures { Writes (K.sink_view sink.old) (K.sink_view sink.new) (hex_pair byte) result }
+{
+    write_whole(sink, &[hex_digit(byte / 16), hex_digit(byte % 16)])
+}
+
+/// Writes bytes in lower-case hexadecimal.
 #[tactic(auto, using(byte_ports::proofs::Joined::whole_none))]
 fn write_hex<K: Sink>(sink: &mut K, bytes: &[u8]) -> Result<(), Failed>
     ensures { Writes (K.sink_view sink.old) (K.sink_view sink.new) (hex_text bytes.now) result }
 {
     for byte in bytes {
-        write_whole(sink, &[hex_digit(*byte / 16), hex_digit(*byte % 16)])?;
+        write_byte(sink, *byte)?;
     }
     Ok(())
 }
