@@ -7,6 +7,8 @@ mod journal;
 mod mounts;
 mod pieces;
 mod report;
+#[cfg(test)]
+mod tests;
 mod views;
 
 pub use journal::{ActorPart, Journal, MountPart, StepName, StepPart, SurfacePart};
