@@ -1,0 +1,4 @@
+pub mod Trees
+pub mod Counted
+pub mod Maps
+pub mod Depths
