@@ -12,7 +12,7 @@ use Rattle.tree_revision.specs.declared.record.Answer.{Answer}
 use Rattle.tree_revision.specs.declared.record.Answer.TheVariants.{Held, Admitted, Mounted, Empty}
 use Rattle.run_report.specs.declared.journal.StepPart.{StepPart}
 use Rattle.run_report.specs.declared.journal.StepName.{StepName}
-use Rattle.run_report.specs.Journal.{PlainMount, PlainSurfacePart, PlainActorPart, PlainJournal}
+use Rattle.run_report.specs.Journal.{PlainMount, PlainJournal}
 
 -- how far a run has come: the admitted commits, the number that the actor holds, the number last mounted, the answers, and the mounts
 pub record Progress : Type 0 where

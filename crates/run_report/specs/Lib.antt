@@ -1,3 +1,5 @@
 pub mod Journal
 pub mod Alone
+pub mod Pieces
+pub mod Named
 pub mod Text

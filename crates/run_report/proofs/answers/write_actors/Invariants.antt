@@ -1,0 +1,9 @@
+use Rattle.std.proofs.Common.{take, map}
+use Rattle.byte_ports.specs.Sinks.{Whole}
+use Rattle.run_report.specs.Journal.{plain_actor_part}
+use Rattle.run_report.specs.Text.{actors_text}
+use Rattle.run_report.proofs.answers.write_actors.Given as goal
+
+abbrev pub invariant-loop-part : goal.invariant-loop-part
+invariant-loop-part g l =
+    Whole (g.K.Sink.sink_view l.initial.sink) (g.K.Sink.sink_view l.sink) (actors_text (map plain_actor_part (take l.part-index l.parts)))

@@ -1,0 +1,118 @@
+//! Texts of a few pieces, written to a sink without memory.
+
+ghost use Rattle.byte_ports.specs.Sinks.{Writes};
+ghost use Rattle.run_report.specs.Pieces.{piece_text, text_of};
+ghost use Rattle.run_report.specs.Text.{number_line, pair_line, triple_line};
+
+use byte_ports::{Failed, Sink, write_whole};
+use itoa::{Buffer, Integer};
+
+/// A part of a line.
+#[derive(Clone, Copy)]
+pub(crate) enum Piece<'a> {
+    Text(&'a [u8]),
+    /// A number in decimals.
+    Number(u64),
+    /// A signed number in decimals.
+    Signed(i64),
+}
+
+/// Writes a number in decimals.
+fn write_number<K: Sink, I: Integer>(sink: &mut K, number: I) -> Result<(), Failed>
+    ensures { Writes (K.sink_view sink.old) (K.sink_view sink.new) (I.text number) result }
+{
+    let mut buffer = Buffer::new();
+    write_whole(sink, buffer.format(number).as_bytes())
+}
+
+/// Writes one piece.
+fn write_piece<K: Sink>(sink: &mut K, piece: Piece<'_>) -> Result<(), Failed>
+    ensures { Writes (K.sink_view sink.old) (K.sink_view sink.new) (piece_text piece.entry) result }
+{
+    match piece {
+        Piece::Text(text) => write_whole(sink, text),
+        Piece::Number(number) => write_number(sink, number),
+        Piece::Signed(number) => write_number(sink, number),
+    }
+}
+
+/// Writes the pieces, one after another. After `Failed` a part of their text is written.
+#[tactic(auto, using(byte_ports::proofs::Joined::whole_none))]
+pub(crate) fn write_pieces<K: Sink>(sink: &mut K, pieces: &[Piece<'_>]) -> Result<(), Failed>
+    ensures { Writes (K.sink_view sink.old) (K.sink_view sink.new) (text_of pieces.now) result }
+{
+    for piece in pieces {
+        write_piece(sink, *piece)?;
+    }
+    Ok(())
+}
+
+/// Writes a text and a number, to the end of a line.
+pub(crate) fn write_number_line<K: Sink>(
+    sink: &mut K,
+    text: &[u8],
+    number: u64,
+) -> Result<(), Failed>
+    ensures { Writes (K.sink_view sink.old) (K.sink_view sink.new) (number_line text.now number) result }
+{
+    write_pieces(
+        sink,
+        &[
+            Piece::Text(text),
+            Piece::Text(b" "),
+            Piece::Number(number),
+            Piece::Text(b"\n"),
+        ],
+    )
+}
+
+/// Writes a text and a tag or an id, to the end of a line.
+pub(crate) fn write_tag_line<K: Sink>(sink: &mut K, text: &[u8], tag: u32) -> Result<(), Failed>
+    ensures { Writes (K.sink_view sink.old) (K.sink_view sink.new) (number_line text.now tag) result }
+{
+    write_number_line(sink, text, tag.into())
+}
+
+/// Writes a text and two numbers, to the end of a line.
+pub(crate) fn write_pair_line<K: Sink>(
+    sink: &mut K,
+    text: &[u8],
+    numbers: (u64, u64),
+) -> Result<(), Failed>
+    ensures { Writes (K.sink_view sink.old) (K.sink_view sink.new) (pair_line text.now numbers.0 numbers.1) result }
+{
+    write_pieces(
+        sink,
+        &[
+            Piece::Text(text),
+            Piece::Text(b" "),
+            Piece::Number(numbers.0),
+            Piece::Text(b" "),
+            Piece::Number(numbers.1),
+            Piece::Text(b"\n"),
+        ],
+    )
+}
+
+/// Writes a text and three numbers, to the end of a line.
+pub(crate) fn write_triple_line<K: Sink>(
+    sink: &mut K,
+    text: &[u8],
+    numbers: (u32, u32, u32),
+) -> Result<(), Failed>
+    ensures { Writes (K.sink_view sink.old) (K.sink_view sink.new) (triple_line text.now numbers.0 numbers.1 numbers.2) result }
+{
+    write_pieces(
+        sink,
+        &[
+            Piece::Text(text),
+            Piece::Text(b" "),
+            Piece::Number(numbers.0.into()),
+            Piece::Text(b" "),
+            Piece::Number(numbers.1.into()),
+            Piece::Text(b" "),
+            Piece::Number(numbers.2.into()),
+            Piece::Text(b"\n"),
+        ],
+    )
+}
