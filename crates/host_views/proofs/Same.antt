@@ -1,5 +1,5 @@
 -- Two views are the same exactly where they are equal.
-use Rattle.std.proofs.Common.{◌≡◌, ◌↔◌, IsTrue, Bool, Option, Some, None, Decides, refl, ap}
+use Rattle.std.proofs.Common.{true, ◌≡◌, ◌↔◌, IsTrue, Bool, Option, Some, None, Decides, refl, ap}
 use Rattle.std.specs.Prelude.{nat_eq}
 use Rattle.std.specs.Ordering.{int_eq}
 use Rattle.std.specs.Cmp.Lexicographic.{pointwise}

@@ -8,11 +8,9 @@ ghost use Rattle.host_views.specs.Plain.{plain_tree};
 ghost use Rattle.view_flatten.specs.HostTree.{host_tree_of, moved};
 ghost use Rattle.view_flatten.specs.Walk.{AreAtRoot, HasRoomFor, IsAdded, own_view, tagged_at, views_from, views_of_node};
 
-mod kinds;
-
 use host_views::{HostTree, HostView, PlacedView, ViewRef};
-use kinds::forms_view;
 use shadow_frame::{Point, Rect};
+use shadow_kinds::forms_view;
 use shadow_node::{Forest, NodeRef, ShadowNode};
 use sqlite_items::Items;
 use std::alloc::{AllocError, Global};

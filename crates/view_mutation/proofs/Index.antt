@@ -1,9 +1,8 @@
 -- An index of the views by their tags.
-use Rattle.std.proofs.Common.{◌≡◌, ℕ, ◌<◌, List, [], ◌∷◌, Bool, true, false, cond, Option, Some, None, is_some, not, map, refl, ap, sym, ◌∙◌}
+use Rattle.std.proofs.Common.{◌≡◌, ℕ, [], ◌∷◌, true, false, cond, Option, Some, is_some, not, map, refl, ap, ◌∙◌}
 use Rattle.std.specs.Prelude.{filter, nat_eq, ◌||◌}
-use Rattle.std.specs.List.{list_any}
 use Rattle.host_views.specs.declared.HostView.{HostView}
-use Rattle.host_views.specs.Plain.{PlainPlacedView, PlainHostTree, create, delete}
+use Rattle.host_views.specs.Plain.{PlainHostTree, create, delete}
 use Rattle.view_mutation.specs.Mutations.{view_at, has_tag, deletes, creates, updates}
 use Rattle.view_mutation.specs.Lookups.{deletes_by, creates_by, updates_by}
 

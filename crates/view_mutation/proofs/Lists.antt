@@ -1,5 +1,5 @@
 -- A list of views that is taken apart at an index.
-use Rattle.std.proofs.Common.{◌≡◌, ℕ, suc, ◌+◌, ◌<◌, ◌≤◌, List, [], ◌∷◌, ◌++◌, length, get_or, drop, drop-cons, map, Bool, true, false, cond, add-one, arith, refl, ap, sym, ◌∙◌, append_assoc, min, inl, inr}
+use Rattle.std.proofs.Common.{◌≡◌, ℕ, suc, ◌+◌, ◌<◌, ◌≤◌, List, [], ◌∷◌, ◌++◌, length, get_or, drop, drop-cons, map, Bool, cond, add-one, arith, refl, ap, sym, ◌∙◌, append_assoc, min, inl, inr}
 use Rattle.std.specs.Prelude.{filter, nat_eq}
 use Rattle.std.proofs.lemmas.List.{map-append, append-nil, drop_all, drop-map}
 use Rattle.std.proofs.lemmas.Bool.{cases_lt}

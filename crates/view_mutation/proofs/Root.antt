@@ -1,5 +1,5 @@
 -- Where every view stands at the root, the root alone has removes and inserts.
-use Rattle.std.proofs.Common.{◌≡◌, ℕ, zero, suc, ◌+◌, ◌<◌, ◌≤◌, List, [], ◌∷◌, ◌++◌, length, drop, map, Bool, true, false, cond, eqb, refl, ap, sym, ◌∙◌, arith, Option}
+use Rattle.std.proofs.Common.{◌≡◌, ℕ, ◌≤◌, List, [], ◌∷◌, ◌++◌, drop, map, false, cond, refl, ap, sym, ◌∙◌, arith, Option}
 use Rattle.std.specs.Prelude.{filter, nat_eq}
 use Rattle.std.specs.List.{flat_map}
 use Rattle.std.proofs.lemmas.List.{append-nil}
@@ -10,7 +10,7 @@ use Rattle.host_views.specs.declared.PlacedView.{PlacedView}
 use Rattle.host_views.specs.declared.Mutation.{Mutation}
 use Rattle.host_views.specs.Plain.{PlainPlacedView, PlainHostTree, PlainMutation, plain_placed, plain_mutation}
 use Rattle.view_flatten.specs.Walk.{AreAtRoot}
-use Rattle.view_mutation.specs.Mutations.{host_tags, host_parents, children_at, common_prefix, staying, removes_from, inserts_from, removes_at, inserts_at, deletes, creates, updates, mutations_between, view_at}
+use Rattle.view_mutation.specs.Mutations.{host_tags, host_parents, common_prefix, staying, removes_from, inserts_from, removes_at, inserts_at, deletes, creates, updates, mutations_between, view_at}
 use Rattle.view_mutation.specs.Lookups.{IsListed, deletes_by, creates_by, updates_by}
 use Rattle.view_mutation.proofs.Lists.{tags_left}
 use Rattle.view_mutation.proofs.Index.{same_deletes, same_creates, same_updates}

@@ -1,5 +1,5 @@
 -- The lists of mutations that go by tags, from what is known at each tag.
-use Rattle.std.specs.Prelude.{◌≡◌, ℕ, List, [], ◌∷◌, ◌++◌, Bool, not, Option, is_some, filter, map}
+use Rattle.std.specs.Prelude.{◌≡◌, ℕ, List, ◌++◌, not, Option, is_some, filter, map}
 use Rattle.std.specs.Option.{option_map}
 use Rattle.std.specs.Ordering.{nat_cmp}
 use Rattle.std.specs.BTreeMap.{BTreeMap, get}

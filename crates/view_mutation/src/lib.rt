@@ -10,6 +10,8 @@ ghost use Rattle.view_mutation.specs.Mutations.{mutations_between};
 
 mod children;
 mod tags;
+#[cfg(test)]
+mod tests;
 
 use children::{add_inserts, add_removes, staying};
 use host_views::{Mutation, PlacedView};

@@ -1,4 +1,4 @@
-use Rattle.std.proofs.Common.{◌≡◌, ◌≤◌, length, map, drop, ◌+◌}
+use Rattle.std.proofs.Common.{◌≡◌, map, drop, ◌+◌}
 use Rattle.host_views.specs.Plain.{plain_placed}
 use Rattle.view_mutation.specs.Mutations.{common_prefix, host_tags}
 use Rattle.view_mutation.proofs.children.staying.Given as goal

@@ -1,4 +1,3 @@
-use Rattle.std.proofs.Common.{◌<◌, length, not, arith}
 use Rattle.host_views.specs.Plain.{update}
 use Rattle.view_mutation.specs.Mutations.{is_other_view}
 use Rattle.view_mutation.specs.Lookups.{indexed}
