@@ -1,5 +1,5 @@
 -- A forest is no deeper than it has nodes.
-use Rattle.std.proofs.Common.{◌≡◌, ℕ, ◌+◌, ◌<◌, ◌≤◌, List, length, get_or, drop, ap, arith}
+use Rattle.std.proofs.Common.{◌≡◌, ℕ, ◌<◌, ◌≤◌, List, length, get_or, drop, ap, arith}
 use Rattle.shadow_node.specs.Forest.{PlainForest, none, node, node_count, depth_of}
 use Rattle.shadow_node.specs.Fields.{SettledFields}
 use Rattle.shadow_node.specs.Falls.{Shared, forest_at}

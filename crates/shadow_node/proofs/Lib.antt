@@ -2,3 +2,4 @@ pub mod Trees
 pub mod Counted
 pub mod Maps
 pub mod Depths
+pub mod Found

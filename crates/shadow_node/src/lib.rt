@@ -11,6 +11,8 @@ ghost use Rattle.shadow_node.specs.Forest.{none};
 ghost use Rattle.shadow_node.specs.Sound.{FitsLeaf, IsSoundNode};
 ghost use Rattle.shadow_node.specs.Falls.{forest_at};
 
+#[cfg(test)]
+mod tests;
 mod walks;
 
 pub use native_state::Made;

@@ -90,7 +90,9 @@ fn build_nodes(
 
 /// The forest that script nodes name, each node made anew, with a frame of zeros.
 ///
-/// `held` is the forest that kept nodes are taken from.
+/// So far each node is a written view that forms no context, with its tag from 1 to 2,147,483,647
+/// and its props in their table. `held` is the forest that kept nodes will be taken from. The one
+/// refusal is `Memory`. `made` rises by one for each node.
 pub fn build(
     alloc: Global,
     made: &mut Made,

@@ -91,7 +91,8 @@ fn settle_in(
 /// The forest of a surface of that size, each node made anew with its frame.
 ///
 /// The size is from 0 to 1,000,000 points each way. The forest is at most 48 deep and has at most
-/// 2,000 nodes.
+/// 2,000 nodes, and so far none of them has a state or forms a context. `made` rises by one for
+/// each node.
 pub fn settle(
     alloc: Global,
     made: &mut Made,
