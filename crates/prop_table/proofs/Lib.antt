@@ -7,3 +7,5 @@ pub mod Widening
 pub mod Joined
 pub mod Slots
 pub mod Merging
+pub mod PairText
+pub mod Sameness

@@ -1,5 +1,5 @@
 -- What widened version 1 props and edits hold.
-use Rattle.std.proofs.Common.{◌≡◌, ℕ, zero, suc, ◌+◌, ◌<◌, List, [], ◌∷◌, ◌++◌, take, drop, length, get_or, slice_set, None, refl, ap, subst, arith, rules}
+use Rattle.std.proofs.Common.{◌≡◌, ℕ, zero, suc, ◌+◌, ◌<◌, List, [], ◌∷◌, ◌++◌, take, drop, length, get_or, slice_set, None, ap, subst, arith, rules}
 use Rattle.std.proofs.lemmas.List.{get_or_append_left, get_or-append-add}
 use Rattle.prop_table.specs.Props.{PropList, value_at}
 use Rattle.prop_table.specs.Table.{RowRule, AreInRows, AreNodeProps, v1_rules, v2_rules, start_of}

@@ -7,13 +7,12 @@ ghost use Rattle.prop_table.specs.Edits.{named_at, merged, edited, AreEditsInRow
 ghost use Rattle.prop_table.specs.Marks.{mark_of, number_of};
 ghost use Rattle.prop_table.specs.Widened.{widened};
 
-use std::marker::Model;
-
 use crate::lookup::OutOfRange;
 use crate::mark::Mark;
 use crate::props::Props;
 use crate::table::PropTable;
 use crate::tables::node_table;
+use std::marker::Model;
 
 /// For each row of a table of `N` rows: unnamed, or the number that it is to become, which may be
 /// absent. It is kept as a mark for each row, beside the number, and 0 where there is none.

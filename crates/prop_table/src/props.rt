@@ -1,6 +1,7 @@
 //! One optional number for each row of a table.
 
 ghost use Rattle.std.specs.Prelude.{◌≡◌, ◌≢◌, ℕ, None, ◌<◌, ◌≤◌, ◌↔◌, length, slice_set, replicate};
+ghost use Rattle.std.specs.Bool.{Decides};
 ghost use Rattle.std.specs.Int.{bit_at};
 ghost use Rattle.prop_table.specs.Props.{value_at};
 
@@ -51,6 +52,13 @@ impl<const N: usize> Props<N> {
     {
         let given = &self.given;
         given.len()
+    }
+
+    /// Whether each row is the same in both.
+    pub fn is_same(&self, other: &Props<N>) -> bool
+        ensures { Decides result (self.now ≡ other.now) }
+    {
+        self == other
     }
 
     /// The number in a row, `None` where it is absent.

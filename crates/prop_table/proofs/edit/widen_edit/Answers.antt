@@ -10,7 +10,7 @@ loop-row-preserved c =
     let below : c.loop-row.row < 22 = omega arith in
     rw add-one
     (c.put.ensures.value ∙ ap (λ w. slice_set w c.loop-row.row c.get.result) c.loop-row.invariant
-        ∙ copied-more c.args.edit.now (replicate 22 None) c.loop-row.row c.get.result None within below c.get.ensures)
+    ∙ copied-more c.args.edit.now (replicate 22 None) c.loop-row.row c.get.result None within below c.get.ensures)
 
 pub returns-clause-rows : goal.returns-clause-rows
 returns-clause-rows c = λ a.

@@ -18,7 +18,7 @@ returns-clause-value g c =
     let number : to_z w64 (of_z w64 c.number.result) ≡ number_of c.args.named = to_z-of_z w64 c.number.result fits ∙ c.number.ensures in
     rw (number, c.mark.ensures)
     (joined-put named_if mark_of number_of g.row.N c.self.inside.marks c.self.inside.numbers c.args.row c.args.named (named_back c.args.named) c.self.invariant
-        ∙ ap (λ edit. slice_set edit c.args.row c.args.named) c.self.view_is)
+    ∙ ap (λ edit. slice_set edit c.args.row c.args.named) c.self.view_is)
 
 pub returns-clause-count : goal.returns-clause-count
 returns-clause-count g c =
@@ -26,4 +26,4 @@ returns-clause-count g c =
     let number : to_z w64 (of_z w64 c.number.result) ≡ number_of c.args.named = to_z-of_z w64 c.number.result fits ∙ c.number.ensures in
     rw (number, c.mark.ensures)
     (AreJoined-count named_if mark_of number_of g.row.N _ _
-        (AreJoined-put named_if mark_of number_of g.row.N c.self.inside.marks c.self.inside.numbers c.args.row c.args.named (named_back c.args.named) c.self.invariant))
+    (AreJoined-put named_if mark_of number_of g.row.N c.self.inside.marks c.self.inside.numbers c.args.row c.args.named (named_back c.args.named) c.self.invariant))

@@ -18,7 +18,7 @@ returns-clause-value g c =
     let number : to_z w64 (of_z w64 c.unwrap_or.result) ≡ number_or_zero c.args.value = to_z-of_z w64 c.unwrap_or.result fits ∙ c.unwrap_or.ensures in
     rw (number, c.is_some.ensures)
     (joined-put number_if is_some number_or_zero g.row.N c.self.inside.given c.self.inside.numbers c.args.row c.args.value (number_back c.args.value) c.self.invariant
-        ∙ ap (λ props. slice_set props c.args.row c.args.value) c.self.view_is)
+    ∙ ap (λ props. slice_set props c.args.row c.args.value) c.self.view_is)
 
 pub returns-clause-count : goal.returns-clause-count
 returns-clause-count g c =
@@ -26,4 +26,4 @@ returns-clause-count g c =
     let number : to_z w64 (of_z w64 c.unwrap_or.result) ≡ number_or_zero c.args.value = to_z-of_z w64 c.unwrap_or.result fits ∙ c.unwrap_or.ensures in
     rw (number, c.is_some.ensures)
     (AreJoined-count number_if is_some number_or_zero g.row.N _ _
-        (AreJoined-put number_if is_some number_or_zero g.row.N c.self.inside.given c.self.inside.numbers c.args.row c.args.value (number_back c.args.value) c.self.invariant))
+    (AreJoined-put number_if is_some number_or_zero g.row.N c.self.inside.given c.self.inside.numbers c.args.row c.args.value (number_back c.args.value) c.self.invariant))
