@@ -5,3 +5,6 @@ pub mod Reading
 pub mod Items
 pub mod Views
 pub mod Scripts
+pub mod Ranges
+pub mod PlainViews
+pub mod FirstForm

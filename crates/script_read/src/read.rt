@@ -50,7 +50,8 @@ fn read_value(alloc: Global, value: &Value) -> Result<Script, ScriptRefusal>
 /// `Unbuilt` where that value is not of the form that is built so far; the first that applies.
 /// `Memory` where there is no memory.
 pub fn read_script(alloc: Global, bytes: &[u8]) -> Result<Script, ScriptRefusal>
-    ensures { ReadsScript (script_in bytes.now) result }
+    ensures read { ReadsScript (script_in bytes.now) result }
+    ensures form { IfOk result (λ script. IsFirstForm (plain_script script)) }
 {
     if bytes.len() > MAX_BYTES {
         return Err(ScriptRefusal::Fault(ScriptFault::TooLong));
