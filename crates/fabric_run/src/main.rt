@@ -10,11 +10,12 @@ use byte_ports::{StdSink, StdSource};
 use run_engine::FreeGate;
 use status::{Status, code};
 use std::process::ExitCode;
+use std::rt::Env;
 use std::{env, io};
 use top::fabric_main;
 
 /// The words after the program's name.
-fn words_of(rt: &HostRuntime) -> io::Result<Vec<String>> {
+fn words_of(rt: &(impl Env + AllocGlobal)) -> io::Result<Vec<String>> {
     let mut words = Vec::new(rt.alloc());
     for word in env::args(rt)?.skip(1) {
         words.push(word)?;
@@ -22,25 +23,21 @@ fn words_of(rt: &HostRuntime) -> io::Result<Vec<String>> {
     Ok(words)
 }
 
-/// Runs the program on the real words, source and sinks.
-fn status_of(rt: &HostRuntime) -> Status {
-    let Ok(words) = words_of(rt) else {
-        return Status::Memory;
+fn main(rt: HostRuntime) -> ExitCode {
+    let Ok(words) = words_of(&rt) else {
+        return ExitCode::from(code(&Status::Memory));
     };
     let mut source = StdSource::start(rt.reader());
-    let mut out = StdSink::start(io::writer(rt));
+    let mut out = StdSink::start(io::writer(&rt));
     let mut err = StdSink::start(io::sink());
-    fabric_main(
-        rt,
+    let status = fabric_main(
+        &rt,
         rt.alloc(),
         &words,
         &mut source,
         &mut out,
         &mut err,
         &FreeGate,
-    )
-}
-
-fn main(rt: HostRuntime) -> ExitCode {
-    ExitCode::from(code(&status_of(&rt)))
+    );
+    ExitCode::from(code(&status))
 }

@@ -5,7 +5,7 @@ use Rattle.std.specs.Ordering.{int_eq}
 use Rattle.std.specs.Cmp.Lexicographic.{pointwise}
 use Rattle.std.specs.Option.{option_eq}
 use Rattle.std.proofs.lemmas.Bool.{false≢true}
-use Rattle.std.proofs.lemmas.Bool.Decides.{Decides-eqb, Decides-int_eq, Decides-and}
+use Rattle.std.proofs.lemmas.Bool.Decides.{same_from_decides, Decides-eqb, Decides-int_eq, Decides-and}
 use Rattle.std.proofs.lemmas.Slice.Eq.{slice_eq-Decides}
 use Rattle.shadow_frame.specs.declared.Rect.{Rect}
 use Rattle.shadow_frame.specs.declared.Point.{Point}
@@ -78,3 +78,7 @@ same_itself a = (same_views a a).1 refl
 -- a test with that answer is true exactly where the views are equal
 pub told_same : (r : Bool) (a b : HostView) → r ≡ is_same_view a b → IsTrue r ↔ (a ≡ b)
 told_same r a b e = rw e (same_views a b)
+
+-- a test that tells whether props are equal is the test of their rows
+pub props_answer : (a b : PropList) (answer : Bool) → Decides answer (a ≡ b) → answer ≡ is_same_props a b
+props_answer a b answer h = same_from_decides answer (is_same_props a b) h (same_props a b)

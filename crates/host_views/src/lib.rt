@@ -2,7 +2,7 @@
 #![tactic(auto)]
 
 ghost use Rattle.std.specs.Prelude.{◌≡◌, ◌↔◌, IsTrue};
-ghost use Rattle.host_views.specs.Same.{is_same_view};
+ghost use Rattle.host_views.specs.Same.{is_same_props, is_same_view};
 
 use native_state::StateCell;
 use prop_table::{Label, NodeProps};
@@ -35,11 +35,18 @@ impl HostView {
         ensures { result ≡ is_same_view self.now other.now }
     {
         self.kind == other.kind
-            && self.props == other.props
+            && are_same_props(&self.props, &other.props)
             && self.label.bytes() == other.label.bytes()
             && self.state == other.state
             && self.frame == other.frame
     }
+}
+
+/// Whether each row is the same.
+fn are_same_props(a: &NodeProps, b: &NodeProps) -> bool
+    ensures { result ≡ is_same_props a.now b.now }
+{
+    a.is_same(b)
 }
 
 /// A shared view.
