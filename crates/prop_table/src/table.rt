@@ -6,13 +6,17 @@ ghost use Rattle.prop_table.specs.Rows.{have_short_names};
 /// One row of a table.
 #[derive(Clone, Copy, Debug)]
 pub struct Row {
+    /// What the row is called, in at most sixteen bytes.
     pub name: &'static str,
+    /// The least number that it takes.
     pub low: i64,
+    /// The greatest number that it takes.
     pub high: i64,
+    /// What it begins with: a number, or `None` where it may be absent.
     pub start: Option<i64>,
 }
 
-/// A table of `N` rows.
+/// A table of `N` rows, whose names have at most sixteen bytes.
 #[derive(Clone, Copy)]
 pub struct PropTable<const N: usize> {
     pub rows: &'static [Row],
