@@ -24,6 +24,7 @@ pub struct PropTable<const N: usize> {
     ghost short_names: { IsTrue (have_short_names rows.now) },
 }
 
+// A row, from its name, low, high and start.
 macro_rules! row {
     ($name:literal, $low:expr, $high:expr, $start:expr) => {
         Row {
@@ -35,6 +36,7 @@ macro_rules! row {
     };
 }
 
+// The rows of version 1, and more after them.
 macro_rules! rows_then {
     ($($more:expr),*) => {
         [
