@@ -9,3 +9,4 @@ pub mod Slots
 pub mod Merging
 pub mod PairText
 pub mod Sameness
+pub mod NamedRows
