@@ -1,6 +1,6 @@
 -- The script that is read is of the first form.
 use Rattle.std.proofs.Common.{◌≡◌, ℕ, ◌≤◌, List, [], ◌∷◌, length, arith, refl, ap, sym, ◌∙◌}
-use Rattle.std.specs.Prelude.{pos, nat_le, nat_lt, nat_eq, bytes_eq, Bool, true, false, ◌&&◌, cond, if◌then◌else◌, Option, Some, None, option_map, option_and_then, map, All, IfOk, codes, Result, Ok, Err, flat_map}
+use Rattle.std.specs.Prelude.{pos, nat_le, nat_lt, nat_eq, bytes_eq, Bool, true, false, ◌&&◌, cond, Option, Some, None, option_and_then, All, IfOk, codes, Result, Ok, Err, flat_map}
 use Rattle.std.specs.List.{list_all, AllPass}
 use Rattle.std.proofs.lemmas.List.Folds.{list_all-map}
 use Rattle.std.proofs.lemmas.List.Sums.{AllPass-from_list_all}
@@ -9,9 +9,7 @@ use Rattle.std.proofs.lemmas.List.Elements.{All-cons, All-nil}
 use Rattle.std.proofs.lemmas.Option.{option_and_then_some, cond_some, none-some, same_Some}
 use Rattle.serde_json.specs.Data.{Data, Items, no_items, item}
 use Rattle.serde_json.specs.Find.{get, as_str, as_array}
-use Rattle.shadow_frame.specs.declared.Size.{Size}
 use Rattle.tree_settle.specs.Limits.{IsSizeInRange}
-use Rattle.native_state.specs.declared.StateChange.{StateChange}
 use Rattle.shadow_node.specs.Forest.{depth_of, node_count}
 use Rattle.tree_build.specs.Script.{ScriptForest}
 use Rattle.tree_build.specs.WrittenViews.{AreWrittenViews}
@@ -27,8 +25,7 @@ use Rattle.script_read.specs.FirstScript.{within_limits, first_script, json_in, 
 use Rattle.script_read.specs.Plain.{plain_script}
 use Rattle.script_read.specs.declared.script.Script.{Script}
 use Rattle.script_read.specs.declared.script.ScriptRefusal.{ScriptRefusal}
-use Rattle.script_read.specs.declared.script.ScriptFault.{ScriptFault}
-use Rattle.script_read.specs.declared.script.ScriptFault.TheVariants.{TooLong, NotJson, Unbuilt}
+use Rattle.script_read.specs.declared.script.ScriptFault.TheVariants.{TooLong}
 use Rattle.script_read.proofs.Ranges.{both, guarded, mapped, integer_at_ok, natural_at_ok}
 use Rattle.script_read.proofs.PlainViews.{nodes_views}
 
@@ -56,13 +53,13 @@ surface_size : (d : Data) (surface : PlainSurface) → surface_of d ≡ Some sur
 surface_size d surface e =
     option_and_then_some _ (required (codes "id") (natural_within 1 1000000) d) surface (guarded _ _ surface e).1
     (λ id i f.
-      option_and_then_some _ (required (codes "width") (integer_within (pos 0) (pos 1000000)) d) surface f
-      (λ width w g.
-        mapped _ (required (codes "height") (integer_within (pos 0) (pos 1000000)) d) surface g
-        (λ height h s.
-          let x = integer_at_ok (codes "width") (pos 0) (pos 1000000) d width w in
-          let y = integer_at_ok (codes "height") (pos 0) (pos 1000000) d height h in
-          rw (← s) (record { width_low = x.0; width_high = x.1; height_low = y.0; height_high = y.1 }))))
+    option_and_then_some _ (required (codes "width") (integer_within (pos 0) (pos 1000000)) d) surface f
+    (λ width w g.
+    mapped _ (required (codes "height") (integer_within (pos 0) (pos 1000000)) d) surface g
+    (λ height h s.
+    let x = integer_at_ok (codes "width") (pos 0) (pos 1000000) d width w in
+    let y = integer_at_ok (codes "height") (pos 0) (pos 1000000) d height h in
+    rw (← s) (record { width_low = x.0; width_high = x.1; height_low = y.0; height_high = y.1 }))))
 
 complete_views : (d : Data) (act : PlainAct) → complete_of d ≡ Some act → HasViews act
 complete_views d act e =
@@ -82,16 +79,16 @@ step_on : (id : ℕ) (d : Data) (step : PlainStep) → step_of id d ≡ Some ste
 step_on id d step e =
     option_and_then_some _ (required (codes "on") (natural_within id id) d) step e
     (λ surface o f.
-      mapped _ (option_and_then (act_of d) (required (codes "do") as_str d)) step f
-      (λ act a s.
-        option_and_then_some (act_of d) (required (codes "do") as_str d) act a
-        (λ word w g.
-          let r = natural_at_ok (codes "on") id id d surface o in
-          rw (← s)
-          (record {
-            place = omega (arith, r.0, r.1);
-            views = act_views_by (bytes_eq word (codes "complete")) (bytes_eq word (codes "mount")) d act g;
-          }))))
+    mapped _ (option_and_then (act_of d) (required (codes "do") as_str d)) step f
+    (λ act a s.
+    option_and_then_some (act_of d) (required (codes "do") as_str d) act a
+    (λ word w g.
+    let r = natural_at_ok (codes "on") id id d surface o in
+    rw (← s)
+    (record {
+      place = omega (arith, r.0, r.1);
+      views = act_views_by (bytes_eq word (codes "complete")) (bytes_eq word (codes "mount")) d act g;
+    }))))
 
 joined_all : {A : Type 0} (P : A → Type 0) (first : Option A) (others : Option (List A)) (all : List A) → joined first others ≡ Some all
     → ((x : A) → first ≡ Some x → P x) → ((rest : List A) → others ≡ Some rest → All P rest) → All P all
@@ -108,13 +105,13 @@ actor_steps : (id : ℕ) (d : Data) (actor : PlainActor) → actor_of id d ≡ S
 actor_steps id d actor e =
     option_and_then_some _ (required (codes "name") name_of d) actor (guarded _ _ actor e).1
     (λ name n f.
-      mapped _ (required (codes "steps") (array_of (step_of id)) d) actor f
-      (λ steps s q.
-        rw (← q)
-        (option_and_then_some (array_of (step_of id)) (get (codes "steps") d) steps s
-          (λ found g a.
-            option_and_then_some (each (step_of id)) (as_array found) steps a
-            (λ items i b. each_all (IsStepOn id) (step_of id) (step_on id) items steps b)))))
+    mapped _ (required (codes "steps") (array_of (step_of id)) d) actor f
+    (λ steps s q.
+    rw (← q)
+    (option_and_then_some (array_of (step_of id)) (get (codes "steps") d) steps s
+    (λ found g a.
+    option_and_then_some (each (step_of id)) (as_array found) steps a
+    (λ items i b. each_all (IsStepOn id) (step_of id) (step_on id) items steps b)))))
 
 no_turn_read : (ds : Items) (turns : List ℕ) → each turn_of ds ≡ Some turns → turns ≡ []
 no_turn_read no_items turns e = sym (same_Some [] turns e)
@@ -131,7 +128,7 @@ at_most_of n m h = grind (arith, h)
 tree_first : (nodes : ScriptForest) → AreWrittenViews nodes → is_tree_in_limits nodes ≡ true → IsFirstTree nodes
 tree_first nodes v t =
     let p = both (nat_le (depth_of (written_out nodes)) 48 && nat_le (node_count (written_out nodes)) 2000)
-      (nat_eq (different (tags_in nodes)) (node_count (written_out nodes))) t
+    (nat_eq (different (tags_in nodes)) (node_count (written_out nodes))) t
     in
     let q = both (nat_le (depth_of (written_out nodes)) 48) (nat_le (node_count (written_out nodes)) 2000) p.0 in
     record {
@@ -157,8 +154,8 @@ act_first mount v t = tt
 acts_first : (id : ℕ) (steps : List PlainStep) → All (IsStepOn id) steps → list_all is_tree_in_limits (trees_of steps) ≡ true → All (λ step. IsFirstAct step.act) steps
 acts_first id steps s t k d h =
     let passes : AllPass (λ (step : PlainStep). is_tree_in_limits (tree_of_act step.act)) steps
-      = AllPass-from_list_all (λ (step : PlainStep). is_tree_in_limits (tree_of_act step.act)) steps
-        (sym (list_all-map is_tree_in_limits (λ (step : PlainStep). tree_of_act step.act) steps) ∙ t)
+    = AllPass-from_list_all (λ (step : PlainStep). is_tree_in_limits (tree_of_act step.act)) steps
+    (sym (list_all-map is_tree_in_limits (λ (step : PlainStep). tree_of_act step.act) steps) ∙ t)
     in
     act_first (get_or steps k d).act (s k d h).views (passes k d h)
 
@@ -169,7 +166,7 @@ parts_first : (version : ℕ) (surface : PlainSurface) (actor : PlainActor) (tur
     → turns ≡ [] → are_steps_in_limits actor.steps ≡ true → IsFirstForm (made_of version surface actor turns)
 parts_first version surface actor turns z s n t =
     let p = both (nat_le (length actor.steps) 2048 && list_all is_tree_in_limits (trees_of actor.steps))
-      (nat_le (different (flat_map tags_in (trees_of actor.steps))) 4096) t
+    (nat_le (different (flat_map tags_in (trees_of actor.steps))) 4096) t
     in
     let q = both (nat_le (length actor.steps) 2048) (list_all is_tree_in_limits (trees_of actor.steps)) p.0 in
     record {
@@ -198,16 +195,16 @@ script_first : (d : Data) (script : PlainScript) → script_of d ≡ Some script
 script_first d script e l =
     option_and_then_some _ (required (codes "version") (natural_within 1 1) d) script (guarded _ _ script e).1
     (λ version v f.
-      option_and_then_some _ (required (codes "surfaces") (one_of surface_of) d) script f
-      (λ surface s g.
-        option_and_then_some _ (required (codes "actors") (one_of (actor_of surface.id)) d) script g
-        (λ actor a h.
-          mapped _ (required (codes "turns") (array_of turn_of) d) script h
-          (λ turns t q.
-            let within : is_in_limits (made_of version surface actor turns) ≡ true = ap is_in_limits q ∙ l in
-            rw (← q)
-            (parts_first version surface actor turns (only_surface_size d surface s) (only_actor_steps surface.id d actor a) (turns_none d turns t)
-              (both (are_steps_in_limits actor.steps) true within).0)))))
+    option_and_then_some _ (required (codes "surfaces") (one_of surface_of) d) script f
+    (λ surface s g.
+    option_and_then_some _ (required (codes "actors") (one_of (actor_of surface.id)) d) script g
+    (λ actor a h.
+    mapped _ (required (codes "turns") (array_of turn_of) d) script h
+    (λ turns t q.
+    let within : is_in_limits (made_of version surface actor turns) ≡ true = ap is_in_limits q ∙ l in
+    rw (← q)
+    (parts_first version surface actor turns (only_surface_size d surface s) (only_actor_steps surface.id d actor a) (turns_none d turns t)
+    (both (are_steps_in_limits actor.steps) true within).0)))))
 
 value_first : (d : Data) (script : PlainScript) → first_script d ≡ Some script → IsFirstForm script
 value_first d script e =

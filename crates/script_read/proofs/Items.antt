@@ -1,8 +1,8 @@
 -- The items of an array, read one after another.
-use Rattle.std.proofs.Common.{◌≡◌, ℕ, ◌+◌, ◌<◌, ◌≤◌, List, [], ◌∷◌, ◌++◌, length, get_or, take, drop, drop-cons, add-one, arith, refl, ap, sym, ◌∙◌, append_assoc}
+use Rattle.std.proofs.Common.{◌≡◌, ℕ, ◌+◌, ◌<◌, ◌≤◌, List, [], ◌∷◌, ◌++◌, length, get_or, drop, drop-cons, add-one, arith, refl, ap, sym, ◌∙◌, append_assoc}
 use Rattle.std.proofs.Math.ListN.{drop_of_length-le}
-use Rattle.std.specs.Prelude.{Option, Some, None, option_map, map, max}
-use Rattle.serde_json.specs.Data.{Data, null, boolean, number, string, array, object, Items, no_items, item, Members, no_members, member, depth, items_depth, members_depth}
+use Rattle.std.specs.Prelude.{Option, Some, None, map}
+use Rattle.serde_json.specs.Data.{Data, null, boolean, number, string, array, object, item, depth, items_depth}
 use Rattle.serde_json.specs.Find.{as_array}
 use Rattle.serde_json.specs.View.{view, items_view}
 use Rattle.serde_json.specs.declared.value.Value.{Value}
@@ -14,6 +14,7 @@ abbrev pub after : {A : Type 0} → List A → Option (List A) → Option (List 
 after done None = None
 after done (Some rest) = Some (done ++ rest)
 
+-- in front of nothing
 pub after_none : {A : Type 0} (rest : Option (List A)) → after [] rest ≡ rest
 after_none None = refl
 after_none (Some rest) = refl
@@ -54,9 +55,11 @@ array_deep (number n) xs h = cc
 array_deep (string s) xs h = cc
 array_deep (object ms) xs h = cc
 
+-- what is left lies no deeper
 pub deep_left : (xs : List Value) (i : ℕ) (d : Value) → i < length xs → d ≡ get_or xs i d
     → items_depth (items_view (drop (i + 1) xs)) ≤ items_depth (items_view (drop i xs))
 deep_left xs i d h e = rw (left_of xs i d h e) (omega arith)
 
+-- an item lies no deeper than what is left
 pub item_deep : (xs : List Value) (i : ℕ) (d : Value) → i < length xs → d ≡ get_or xs i d → depth (view d) ≤ items_depth (items_view (drop i xs))
 item_deep xs i d h e = rw (left_of xs i d h e) (omega arith)

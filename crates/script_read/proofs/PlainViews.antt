@@ -1,13 +1,13 @@
 -- The trees that are read are of plain views.
-use Rattle.std.proofs.Common.{◌≡◌, ℕ, ◌+◌, ◌<◌, ◌≤◌, ◌^◌, List, [], ◌∷◌, arith, refl, ap, sym, ◌∙◌}
-use Rattle.std.specs.Prelude.{ℤ, nat_lt, Bool, true, false, ◌&&◌, Option, Some, None, option_map, option_and_then, map, slice_set, codes}
+use Rattle.std.proofs.Common.{◌≡◌, ℕ, ◌<◌, ◌≤◌, List, [], ◌∷◌, arith, refl, ◌∙◌}
+use Rattle.std.specs.Prelude.{ℤ, nat_lt, true, false, Option, Some, None, option_map, map, slice_set, codes}
 use Rattle.std.specs.List.{list_all}
 use Rattle.std.specs.Ordering.{nat_cmp, match_ordering}
 use Rattle.std.specs.declared.cmp.Ordering.TheVariants.{Less, Equal, Greater}
 use Rattle.std.specs.Cmp.Lexicographic.{slice_cmp}
 use Rattle.std.proofs.lemmas.List.{get_or-set_other}
 use Rattle.std.proofs.lemmas.Option.{option_and_then_some, none-some, same_Some}
-use Rattle.serde_json.specs.Data.{Num, Data, null, boolean, number, string, array, object, Items, no_items, item, Members, no_members, member}
+use Rattle.serde_json.specs.Data.{Data, null, boolean, number, string, array, object, Items, no_items, item, Members, no_members, member}
 use Rattle.serde_json.specs.Find.{get}
 use Rattle.prop_table.specs.Props.{PropList, value_at}
 use Rattle.prop_table.specs.Table.{IsInRow, AreNodeProps, v2_rules, start_of}
@@ -16,7 +16,7 @@ use Rattle.prop_table.proofs.NodeRows.{AreNodeProps-start}
 use Rattle.shadow_kinds.specs.declared.Kind.TheVariants.{View}
 use Rattle.shadow_kinds.specs.Traits.{forms_context_of}
 use Rattle.shadow_node.specs.Fields.{NodeFields}
-use Rattle.tree_build.specs.Script.{ScriptForest, no_more, written, kept, kept_with, chained}
+use Rattle.tree_build.specs.Script.{ScriptForest, no_more, chained}
 use Rattle.tree_build.specs.WrittenViews.{IsPlainView, AreWrittenViews}
 use Rattle.script_read.specs.Members.{required, has_only, integer_within, natural_within, joined}
 use Rattle.script_read.specs.Nodes.{rule_of_row, named_rows, with_row, with_member, with_members, props_of, props_at, view_fields, fields_of, written_before, node_of, nodes_of, fronts_of, children_of}
@@ -86,9 +86,9 @@ fields_plain : (d : Data) (fields : NodeFields) → fields_of d ≡ Some fields 
 fields_plain d fields e =
     option_and_then_some (λ (tag : ℕ). option_map (view_fields tag) (props_at (get (codes "props") d))) (tag_of d) fields (guarded _ _ fields e).1
     (λ tag t f.
-      mapped (view_fields tag) (props_at (get (codes "props") d)) fields f
-      (λ props p s.
-        rw (← s) (view_plain tag props (natural_at_ok (codes "tag") 1 2147483647 d tag t) (props_at_plain (get (codes "props") d) props p))))
+    mapped (view_fields tag) (props_at (get (codes "props") d)) fields f
+    (λ props p s.
+    rw (← s) (view_plain tag props (natural_at_ok (codes "tag") 1 2147483647 d tag t) (props_at_plain (get (codes "props") d) props p))))
 
 -- a node in front of written views
 abbrev pub KeepsViews : (ScriptForest → ScriptForest) → Type 0
@@ -116,8 +116,8 @@ mutual
   node_keeps (object ms) front e =
       option_and_then_some (λ (fields : NodeFields). option_map (written_before fields) (children_of ms)) (fields_of (object ms)) front e
       (λ fields f g.
-        mapped (written_before fields) (children_of ms) front g
-        (λ children c s. before_keeps fields children front (fields_plain (object ms) fields f) (children_views ms children c) s))
+      mapped (written_before fields) (children_of ms) front g
+      (λ children c s. before_keeps fields children front (fields_plain (object ms) fields f) (children_views ms children c) s))
 
   -- the nodes that are read are plain views
   pub nodes_views : (d : Data) (nodes : ScriptForest) → nodes_of d ≡ Some nodes → AreWrittenViews nodes

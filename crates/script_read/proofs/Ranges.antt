@@ -1,5 +1,5 @@
 -- What is read, by its parts, and the ranges of numbers.
-use Rattle.std.proofs.Common.{◌≡◌, ℕ, ◌≤◌, List, refl, ap, sym, ◌∙◌}
+use Rattle.std.proofs.Common.{◌≡◌, ℕ, ◌≤◌, List, refl}
 use Rattle.std.specs.Prelude.{◌≤ℤ◌, ℤ, pos, negsuc, nat_abs, int_le, Bool, true, false, ◌&&◌, cond, Option, Some, None, option_map, option_and_then}
 use Rattle.std.specs.Int.Signed.{le_z_yes}
 use Rattle.std.proofs.lemmas.Option.{option_and_then_some, cond_some, none-some, same_Some}
@@ -55,5 +55,6 @@ natural_ok low high d n h =
 pub integer_at_ok : (name : List ℕ) (low high : ℤ) (d : Data) (z : ℤ) → required name (integer_within low high) d ≡ Some z → (low ≤ℤ z) × (z ≤ℤ high)
 integer_at_ok name low high d z h = option_and_then_some (integer_within low high) (get name d) z h (λ x g e. integer_ok low high x z e)
 
+-- a member's natural number is in its range
 pub natural_at_ok : (name : List ℕ) (low high : ℕ) (d : Data) (n : ℕ) → required name (natural_within low high) d ≡ Some n → (low ≤ n) × (n ≤ high)
 natural_at_ok name low high d n h = option_and_then_some (natural_within low high) (get name d) n h (λ x g e. natural_ok low high x n e)

@@ -1,7 +1,6 @@
 -- What a refusal says of what was to be read.
-use Rattle.std.proofs.Common.{◌≡◌, refl, ap, sym, ◌∙◌}
-use Rattle.std.specs.Prelude.{Option, Some, None, Result, Ok, Err}
-use Rattle.script_read.specs.declared.script.ScriptFault.{ScriptFault}
+use Rattle.std.proofs.Common.{◌≡◌, refl, ap}
+use Rattle.std.specs.Prelude.{Option, Some, None, Ok, Err}
 use Rattle.script_read.specs.declared.script.ScriptFault.TheVariants.{Unbuilt}
 use Rattle.script_read.specs.declared.script.ScriptRefusal.{ScriptRefusal}
 use Rattle.script_read.specs.declared.script.ScriptRefusal.TheVariants.{Fault, Memory}

@@ -1,11 +1,10 @@
 -- The nodes and tags of a tree.
-use Rattle.std.proofs.Common.{◌≡◌, ℕ, ◌+◌, List, [], ◌∷◌, ◌++◌, length, arith, refl, ap, sym, ◌∙◌, length-append}
+use Rattle.std.proofs.Common.{◌≡◌, ℕ, ◌+◌, List, length, arith, refl, ◌∙◌, length-append}
 use Rattle.std.proofs.Common.{◌<◌, get_or, drop, drop-cons, add-one}
 use Rattle.std.proofs.lemmas.List.{length-map}
 use Rattle.std.specs.Ordering.{nat_cmp}
 use Rattle.std.specs.BTreeSet.{insert_key}
 use Rattle.script_read.specs.Limits.{with_numbers}
-use Rattle.std.specs.Prelude.{map}
 use Rattle.shadow_node.specs.Forest.{PlainForest, none, node, node_count, preorder}
 use Rattle.shadow_node.specs.Fields.{NodeFields, tags_of}
 

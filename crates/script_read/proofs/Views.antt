@@ -1,13 +1,12 @@
 -- A node's members, found by their names.
-use Rattle.std.proofs.Common.{◌≡◌, ℕ, ◌+◌, ◌<◌, ◌≤◌, List, [], ◌∷◌, length, arith, refl, ap, sym, ◌∙◌}
-use Rattle.std.specs.Prelude.{Option, Some, None, option_map, option_and_then, codes, max, map, true, if◌then◌else◌}
-use Rattle.std.specs.declared.cmp.Ordering.{Ordering}
+use Rattle.std.proofs.Common.{◌≡◌, ℕ, ◌<◌, ◌≤◌, List, [], arith, refl, ap, sym, ◌∙◌}
+use Rattle.std.specs.Prelude.{Option, Some, None, option_map, option_and_then, codes, max, map, true}
 use Rattle.std.specs.declared.cmp.Ordering.TheVariants.{Less, Equal, Greater}
 use Rattle.std.specs.Ordering.{nat_cmp, match_ordering}
 use Rattle.std.specs.Cmp.Lexicographic.{slice_cmp}
-use Rattle.serde_json.specs.Data.{Num, Data, null, boolean, number, string, array, object, Items, no_items, item, Members, no_members, member, depth, members_depth, items_depth}
+use Rattle.serde_json.specs.Data.{Data, null, boolean, number, string, array, object, Items, no_items, item, Members, no_members, member, depth, members_depth}
 use Rattle.serde_json.specs.Find.{get_member, get, as_array}
-use Rattle.serde_json.specs.View.{view, items_view}
+use Rattle.serde_json.specs.View.{items_view}
 use Rattle.serde_json.specs.declared.value.Value.{Value}
 use Rattle.prop_table.specs.Props.{PropList}
 use Rattle.prop_table.specs.Table.{v2_rules, start_of}
@@ -19,7 +18,7 @@ use Rattle.tree_build.specs.declared.ScriptNode.TheViews as view_form
 use Rattle.tree_build.specs.declared.ScriptNode.TheVariants.{rolls-Written}
 use Rattle.tree_build.specs.Script.{ScriptForest, no_more, chained, in_front, script_layer, script_forest}
 use Rattle.script_read.specs.Members.{joined, each, has_only}
-use Rattle.script_read.specs.Nodes.{named_rows, rule_of_row, with_member, with_members, props_of, view_fields, fields_of, written_before, node_of, nodes_of, fronts_of, children_of}
+use Rattle.script_read.specs.Nodes.{named_rows, rule_of_row, with_member, props_of, view_fields, fields_of, written_before, node_of, nodes_of, fronts_of, children_of}
 
 -- the nodes of a member, where it is there
 abbrev pub children_at : Option Data → Option ScriptForest
@@ -48,6 +47,7 @@ node_is (string s) = refl
 node_is (array ds) = refl
 node_is (object ms) = ap (node_with (fields_of (object ms))) (children_found ms)
 
+-- without fields there is no node
 pub no_node : (d : Data) → fields_of d ≡ None → node_of d ≡ None
 no_node d h = node_is d ∙ (rw h refl)
 
@@ -55,6 +55,7 @@ no_children_at : (fields : Option NodeFields) → node_with fields None ≡ None
 no_children_at None = refl
 no_children_at (Some fields) = refl
 
+-- without children that are read there is no node
 pub no_children : (d list : Data) → get (codes "children") d ≡ Some list → nodes_of list ≡ None → node_of d ≡ None
 no_children d list g h = node_is d ∙ (rw (g, h) (no_children_at (fields_of d)))
 
@@ -83,6 +84,7 @@ nodes_are (number n) xs h = cc
 nodes_are (string s) xs h = cc
 nodes_are (object ms) xs h = cc
 
+-- what is no array has no nodes
 pub no_nodes : (d : Data) → None ≡ as_array d → nodes_of d ≡ None
 no_nodes (array ds) h = cc
 no_nodes null h = refl

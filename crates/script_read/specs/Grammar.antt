@@ -1,8 +1,7 @@
 -- Which script a JSON value is: one surface and one actor, so far.
-use Rattle.std.specs.Prelude.{ℕ, pos, List, [], ◌∷◌, length, codes, Bool, false, ◌&&◌, ◌||◌, nat_eq, nat_le, bytes_eq, if◌then◌else◌, Option, Some, None, option_map, option_and_then}
+use Rattle.std.specs.Prelude.{ℕ, pos, List, [], ◌∷◌, length, codes, Bool, ◌&&◌, ◌||◌, nat_eq, nat_le, bytes_eq, if◌then◌else◌, Option, Some, None, option_map, option_and_then}
 use Rattle.std.specs.List.{list_all}
-use Rattle.shadow_frame.specs.declared.Size.{Size}
-use Rattle.serde_json.specs.Data.{Data, Items}
+use Rattle.serde_json.specs.Data.{Data}
 use Rattle.serde_json.specs.Find.{as_str}
 use Rattle.tree_revision.specs.Records.{complete}
 use Rattle.tree_revision.specs.Script.{PlainAct, commit, mount, PlainStep, PlainActor, PlainSurface, PlainScript}
@@ -14,15 +13,15 @@ abbrev pub surface_of : Data → Option PlainSurface
 surface_of value =
     if has_only (codes "id" ∷ codes "width" ∷ codes "height" ∷ []) value
     then
-      option_and_then
-      (λ id.
-        option_and_then
-        (λ width.
-          option_map
-          (λ height. record { id = id; size = record { width = width; height = height } })
-          (required (codes "height") (integer_within (pos 0) (pos 1000000)) value))
-        (required (codes "width") (integer_within (pos 0) (pos 1000000)) value))
-      (required (codes "id") (natural_within 1 1000000) value)
+    option_and_then
+    (λ id.
+    option_and_then
+    (λ width.
+    option_map
+    (λ height. record { id = id; size = record { width = width; height = height } })
+    (required (codes "height") (integer_within (pos 0) (pos 1000000)) value))
+    (required (codes "width") (integer_within (pos 0) (pos 1000000)) value))
+    (required (codes "id") (natural_within 1 1000000) value)
     else None
 
 -- a step that completes a tree
@@ -47,9 +46,9 @@ abbrev pub step_of : ℕ → Data → Option PlainStep
 step_of id value =
     option_and_then
     (λ surface.
-      option_map
-      (λ act. record { surface = surface; act = act })
-      (option_and_then (act_of value) (required (codes "do") as_str value)))
+    option_map
+    (λ act. record { surface = surface; act = act })
+    (option_and_then (act_of value) (required (codes "do") as_str value)))
     (required (codes "on") (natural_within id id) value)
 
 -- a byte of a name: a lower-case ASCII letter, a digit, `_` or `-`
@@ -69,9 +68,9 @@ abbrev pub actor_of : ℕ → Data → Option PlainActor
 actor_of id value =
     if has_only (codes "name" ∷ codes "steps" ∷ []) value
     then
-      option_and_then
-      (λ name. option_map (λ steps. record { name = name; steps = steps }) (required (codes "steps") (array_of (step_of id)) value))
-      (required (codes "name") name_of value)
+    option_and_then
+    (λ name. option_map (λ steps. record { name = name; steps = steps }) (required (codes "steps") (array_of (step_of id)) value))
+    (required (codes "name") name_of value)
     else None
 
 -- no turn is in the form so far
@@ -83,16 +82,16 @@ abbrev pub script_of : Data → Option PlainScript
 script_of value =
     if has_only (codes "version" ∷ codes "surfaces" ∷ codes "actors" ∷ codes "turns" ∷ []) value
     then
-      option_and_then
-      (λ version.
-        option_and_then
-        (λ surface.
-          option_and_then
-          (λ actor.
-            option_map
-            (λ turns. record { version = version; surfaces = surface ∷ []; actors = actor ∷ []; turns = turns })
-            (required (codes "turns") (array_of turn_of) value))
-          (required (codes "actors") (one_of (actor_of surface.id)) value))
-        (required (codes "surfaces") (one_of surface_of) value))
-      (required (codes "version") (natural_within 1 1) value)
+    option_and_then
+    (λ version.
+    option_and_then
+    (λ surface.
+    option_and_then
+    (λ actor.
+    option_map
+    (λ turns. record { version = version; surfaces = surface ∷ []; actors = actor ∷ []; turns = turns })
+    (required (codes "turns") (array_of turn_of) value))
+    (required (codes "actors") (one_of (actor_of surface.id)) value))
+    (required (codes "surfaces") (one_of surface_of) value))
+    (required (codes "version") (natural_within 1 1) value)
     else None

@@ -1,9 +1,8 @@
 -- The limits that the steps of a script keep, so far.
-use Rattle.std.specs.Prelude.{ℕ, ◌++◌, List, [], ◌∷◌, map, flat_map, length, Bool, ◌&&◌, nat_eq, nat_le}
+use Rattle.std.specs.Prelude.{ℕ, List, [], ◌∷◌, map, flat_map, length, Bool, ◌&&◌, nat_eq, nat_le}
 use Rattle.std.specs.List.{list_all}
 use Rattle.std.specs.Ordering.{nat_cmp}
 use Rattle.std.specs.BTreeSet.{insert_key}
-use Rattle.native_state.specs.declared.StateChange.{StateChange}
 use Rattle.shadow_node.specs.Forest.{depth_of, node_count}
 use Rattle.shadow_node.specs.Fields.{tags_of}
 use Rattle.tree_build.specs.Script.{ScriptForest, no_more}

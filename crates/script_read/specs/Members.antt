@@ -1,7 +1,7 @@
 -- What the grammar of scripts asks of a JSON value.
-use Rattle.std.specs.Prelude.{ℕ, ◌+◌, ℤ, pos, nat_abs, List, [], ◌∷◌, map, count_by, Bool, false, ◌&&◌, nat_eq, int_le, bytes_eq, if◌then◌else◌, Option, Some, None, is_some, option_map, option_and_then}
+use Rattle.std.specs.Prelude.{ℕ, ◌+◌, ℤ, pos, nat_abs, List, [], ◌∷◌, count_by, Bool, false, ◌&&◌, nat_eq, int_le, bytes_eq, if◌then◌else◌, Option, Some, None, is_some, option_map, option_and_then}
 use Rattle.serde_json.specs.Data.{Data, Items, no_items, item, Members, no_members, member}
-use Rattle.serde_json.specs.Find.{get, get_member, as_number, as_i64, as_str, as_array, as_object}
+use Rattle.serde_json.specs.Find.{get, get_member, as_number, as_i64, as_array, as_object}
 
 -- how many members there are
 abbrev pub member_count : Members → ℕ

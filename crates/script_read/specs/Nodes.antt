@@ -1,8 +1,8 @@
 -- Which tree a JSON value is: written views, so far.
-use Rattle.std.specs.Prelude.{ℕ, pos, List, [], ◌∷◌, map, slice_set, codes, Bool, ◌&&◌, if◌then◌else◌, Option, Some, None, option_map, option_and_then}
+use Rattle.std.specs.Prelude.{ℕ, List, [], ◌∷◌, map, slice_set, codes, ◌&&◌, if◌then◌else◌, Option, Some, None, option_map, option_and_then}
 use Rattle.std.specs.Ordering.{nat_cmp, match_ordering}
 use Rattle.std.specs.Cmp.Lexicographic.{slice_cmp}
-use Rattle.serde_json.specs.Data.{Num, Data, null, boolean, number, string, array, object, Items, no_items, item, Members, no_members, member}
+use Rattle.serde_json.specs.Data.{Data, null, boolean, number, string, array, object, Items, no_items, item, Members, no_members, member}
 use Rattle.serde_json.specs.Find.{get, as_str}
 use Rattle.prop_table.specs.Props.{PropList}
 use Rattle.prop_table.specs.Table.{RowRule, v2_rules, start_of}
@@ -55,9 +55,9 @@ abbrev pub fields_of : Data → Option NodeFields
 fields_of value =
     if has_only (codes "tag" ∷ codes "kind" ∷ codes "props" ∷ codes "children" ∷ []) value && is_text (codes "view") (required (codes "kind") as_str value)
     then
-      option_and_then
-      (λ tag. option_map (view_fields tag) (props_at (get (codes "props") value)))
-      (required (codes "tag") (natural_within 1 2147483647) value)
+    option_and_then
+    (λ tag. option_map (view_fields tag) (props_at (get (codes "props") value)))
+    (required (codes "tag") (natural_within 1 2147483647) value)
     else None
 
 -- a written node in front of its later siblings
@@ -72,7 +72,7 @@ abbrev mutual
   node_of (number n) = None
   node_of (string s) = None
   node_of (array values) = None
-  node_of (object members) = option_and_then (λ fields. option_map (written_before fields) (children_of members)) (fields_of (object members))
+  node_of (object all) = option_and_then (λ fields. option_map (written_before fields) (children_of all)) (fields_of (object all))
 
   -- the nodes that a value is, in order
   pub nodes_of : Data → Option ScriptForest
@@ -81,7 +81,7 @@ abbrev mutual
   nodes_of (number n) = None
   nodes_of (string s) = None
   nodes_of (array values) = option_map chained (fronts_of values)
-  nodes_of (object members) = None
+  nodes_of (object all) = None
 
   pub fronts_of : Items → Option (List (ScriptForest → ScriptForest))
   fronts_of no_items = Some []

@@ -7,6 +7,8 @@ mod members;
 mod nodes;
 mod read;
 mod script;
+#[cfg(test)]
+mod tests;
 
 pub use read::read_script;
 pub use script::{Act, ActorPlan, Script, ScriptFault, ScriptRefusal, Step, SurfacePlan};

@@ -105,7 +105,11 @@ fn is_tree_in_limits(alloc: Global, nodes: &[ScriptNode], tags: &[u32]) -> Resul
 }
 
 /// Whether each of the steps has a tree in the limits, with those tags in all.
-fn are_trees_in_limits(alloc: Global, steps: &[Step], tags: &mut Vec<u32>) -> Result<bool, AllocError>
+fn are_trees_in_limits(
+    alloc: Global,
+    steps: &[Step],
+    tags: &mut Vec<u32>,
+) -> Result<bool, AllocError>
     ensures { IfOk result (λ answer. (answer ≡ list_all is_tree_in_limits_of (trees_of (map plain_step steps.now))) × (IsTrue answer → tags.new.items ≡ tags.old.items ++ flat_map tags_in (trees_of (map plain_step steps.now)))) }
 {
     for step in steps {

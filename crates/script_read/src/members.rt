@@ -84,5 +84,9 @@ pub(crate) fn only_item(value: &Value) -> Option<&Value>
     ensures { option_map (λ item. view item.now) result ≡ only_item_of (as_array (view value.now)) }
 {
     let items = value.as_array()?;
-    if items.len() == 1 { Some(&items[0]) } else { None }
+    if items.len() == 1 {
+        Some(&items[0])
+    } else {
+        None
+    }
 }

@@ -8,5 +8,5 @@ abbrev pub invariant-loop-step : goal.invariant-loop-step
 invariant-loop-step l = record {
   kept : list_all is_tree_in_limits (trees_of (map plain_step (drop l.step-index l.steps))) ≡ list_all is_tree_in_limits (trees_of (map plain_step l.steps));
   found : l.initial.tags.items ++ flat_map tags_in (trees_of (map plain_step l.steps))
-  ≡ l.tags.items ++ flat_map tags_in (trees_of (map plain_step (drop l.step-index l.steps)));
+      ≡ l.tags.items ++ flat_map tags_in (trees_of (map plain_step (drop l.step-index l.steps)));
 }

@@ -1,6 +1,4 @@
-use Rattle.std.proofs.Common.{rules, arith, sym, ap, ◌∙◌, refl}
-use Rattle.std.proofs.lemmas.Grind.{common_steps}
-use Rattle.script_read.specs.Limits.{with_numbers}
+use Rattle.std.proofs.Common.{sym, ◌∙◌}
 use Rattle.script_read.proofs.Trees.{numbers_more}
 use Rattle.script_read.proofs.limits.different.Goals as goal
 
