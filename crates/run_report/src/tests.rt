@@ -212,3 +212,126 @@ fn a_small_run_has_its_report(rt: HostRuntime) -> Result<(), Fail> {
     assert_eq!(rt; sink.bytes(), FIRST_REPORT);
     Ok(())
 }
+
+/// A surface whose closing mount takes a view away and changes two.
+fn changed_surface(alloc: Global) -> Result<SurfacePart, LabelRefusal>
+    ensures { IfOk result (λ part. NamesActors 1 (plain_surface_part part)) }
+{
+    let list = scrolled_list(alloc).map_err(|_| LabelRefusal::Memory)?;
+    let text = labelled_text(alloc)?;
+    let mutations = changes(alloc, list, text).map_err(|_| LabelRefusal::Memory)?;
+    let mount = MountPart {
+        base: 1,
+        to: 4,
+        by: None,
+        mutations,
+    };
+    Ok(SurfacePart {
+        id: 2,
+        records: Items::new(alloc),
+        mounts: one(alloc, mount).map_err(|_| LabelRefusal::Memory)?,
+        last: Items::new(alloc),
+    })
+}
+
+/// A view that is taken away, and two that are changed.
+fn changes(alloc: Global, list: ViewRef, text: ViewRef) -> Result<Items<Mutation>, AllocError> {
+    let mut mutations = one(
+        alloc,
+        Mutation::Remove {
+            parent: 3,
+            tag: 5,
+            index: 1,
+        },
+    )?;
+    mutations.push(Mutation::Delete { tag: 5 })?;
+    mutations.push(Mutation::Update { tag: 3, view: list })?;
+    mutations.push(Mutation::Update {
+        tag: 302,
+        view: text,
+    })?;
+    Ok(mutations)
+}
+
+/// A step's answer on surface 2.
+fn answered(answer: Answer) -> StepPart {
+    StepPart { surface: 2, answer }
+}
+
+/// A step that was cancelled at revision 2 at its first try.
+fn cancelled(cause: Cancel) -> StepPart {
+    answered(Answer::Cancelled {
+        at: 2,
+        tries: 1,
+        cause,
+    })
+}
+
+const CHANGED_REPORT: &[u8] = b"report 1
+surface 2
+actor a-1_
+step 0 on 2 held 18446744073709551615
+step 1 on 2 empty 3
+step 2 on 2 cancelled 2 tries 1 cause 1 Unkept 9
+step 3 on 2 cancelled 2 tries 1 cause 2 ChildOfLeaf 9
+step 4 on 2 cancelled 2 tries 1 cause 3 TwiceTag 9
+step 5 on 2 cancelled 2 tries 1 cause 4 TooDeep
+step 6 on 2 cancelled 2 tries 1 cause 5 TooManyNodes
+step 7 on 2 cancelled 2 tries 1 cause 6 KindChanged 9
+step 8 on 2 cancelled 2 tries 1 cause 7 FamiliesFull
+step 9 on 2 cancelled 2 tries 1 cause 8 NotMounted 9
+step 10 on 2 cancelled 2 tries 1 cause 9 Stateless 2
+step 11 on 2 cancelled 2 tries 1 cause 10 Stale 7 1
+mounts 2
+transaction 1 4 closing
+remove 3 5 1
+delete 5
+update 3 scroll frame -2 44 320 436 state 2 -1 150 left=0 top=44 right=0 bottom=0 z=-3
+update 302 text frame 60 140 252 20 hidden=1 label=5265c3b12f
+views 2
+end
+";
+
+#[test]
+fn a_changed_surface_has_its_report(rt: HostRuntime) -> Result<(), Fail> {
+    let steps = [
+        answered(Answer::Held { at: u64::MAX }),
+        answered(Answer::Empty { at: 3 }),
+        cancelled(Cancel::Unkept { tag: 9 }),
+        cancelled(Cancel::ChildOfLeaf { tag: 9 }),
+        cancelled(Cancel::TwiceTag { tag: 9 }),
+        cancelled(Cancel::TooDeep),
+        cancelled(Cancel::TooManyNodes),
+        cancelled(Cancel::KindChanged { tag: 9 }),
+        cancelled(Cancel::FamiliesFull),
+        cancelled(Cancel::NotMounted { tag: 9 }),
+        cancelled(Cancel::Stateless { tag: 2 }),
+        cancelled(Cancel::Stale { tag: 7, count: 1 }),
+    ];
+    let Ok(surface) = changed_surface(rt.alloc()) else {
+        assert!(rt; false, "a surface");
+        return Ok(());
+    };
+    let journal = journal_of(rt.alloc(), surface, b"a-1_", &steps)?;
+    let mut sink = MemorySink::start(rt.alloc(), 2000, Vec::new(rt.alloc()))?;
+    assert!(rt; write_report(&journal, &mut sink).is_ok());
+    assert_eq!(rt; sink.bytes(), CHANGED_REPORT);
+    Ok(())
+}
+
+#[test]
+fn a_failed_write_leaves_a_part(rt: HostRuntime) -> Result<(), Fail> {
+    let journal = first_run(rt.alloc())?;
+    for (room, failing, held) in [(0, 99, 0), (40, 99, 40), (1000, 0, 0), (1000, 2, 16)] {
+        let mut fails = Vec::new(rt.alloc());
+        fails.push(failing)?;
+        let mut sink = MemorySink::start(rt.alloc(), room, fails)?;
+        assert!(rt;
+            write_report(&journal, &mut sink).is_err(),
+            "{room} {failing}"
+        );
+        assert_eq!(rt; sink.bytes().len(), held, "{room} {failing}");
+        assert!(rt; FIRST_REPORT.starts_with(sink.bytes()), "{room} {failing}");
+    }
+    Ok(())
+}

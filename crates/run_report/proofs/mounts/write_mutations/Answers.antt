@@ -8,8 +8,11 @@ use Rattle.run_report.proofs.mounts.write_mutations.Goals as goal
 pub returns-in_err-write_mutation : goal.returns-in_err-write_mutation
 returns-in_err-write_mutation g c =
     let p = err_from_is_err_and c.from_residual.result c.from_residual.ensures.1 in
-    rw p.1 (part_mapped (mutation_text) plain_mutation _ _ _ c.args.mutations.now c.loop-mutation.mutation-index c.mutation-item.result (search rules) c.mutation-item.is c.loop-mutation.invariant c.in_err-write_mutation.ensures)
+    rw p.1
+    (part_mapped (mutation_text) plain_mutation _ _ _ c.args.mutations.now c.loop-mutation.mutation-index c.mutation-item.result (search rules) c.mutation-item.is
+    c.loop-mutation.invariant c.in_err-write_mutation.ensures)
 
 pub loop-mutation-preserved : goal.loop-mutation-preserved
 loop-mutation-preserved g c =
-    whole_mapped (mutation_text) plain_mutation _ _ _ c.args.mutations.now c.loop-mutation.mutation-index c.mutation-item.result (search rules) c.mutation-item.is c.loop-mutation.invariant c.in_ok-write_mutation.ensures
+    whole_mapped (mutation_text) plain_mutation _ _ _ c.args.mutations.now c.loop-mutation.mutation-index c.mutation-item.result (search rules) c.mutation-item.is
+    c.loop-mutation.invariant c.in_ok-write_mutation.ensures

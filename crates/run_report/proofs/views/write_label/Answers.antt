@@ -8,9 +8,12 @@ pub returns-in_err-write_whole : goal.returns-in_err-write_whole
 returns-in_err-write_whole g c =
     let p = err_from_is_err_and c.from_residual.result c.from_residual.ensures.1 in
     let some : c.args.label.now ≡ [] → ⊥ = λ e. search rules in
-    rw (p.1, label_text_some c.args.label.now some) (part_first _ _ (codes " label=") _ c.in_err-write_whole.ensures)
+    rw (p.1, label_text_some c.args.label.now some)
+    (part_first _ _ (codes " label=") _ c.in_err-write_whole.ensures)
 
 pub returns : goal.returns
 returns g c =
     let some : c.args.label.now ≡ [] → ⊥ = λ e. search rules in
-    rw (label_text_some c.args.label.now some) (then_rest _ _ _ (codes " label=") _ _ c.in_ok-write_whole.ensures (rw c.bytes-bytes.ensures at c.write_hex.ensures))
+    rw (label_text_some c.args.label.now some)
+    (then_rest _ _ _ (codes " label=") _ _ c.in_ok-write_whole.ensures
+    (rw c.bytes-bytes.ensures at c.write_hex.ensures))

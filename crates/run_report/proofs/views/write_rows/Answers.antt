@@ -8,8 +8,11 @@ use Rattle.run_report.proofs.Rows.{part_row, whole_row}
 pub returns-in_err-write_row : goal.returns-in_err-write_row
 returns-in_err-write_row g c =
     let p = err_from_is_err_and c.from_residual.result c.from_residual.ensures.1 in
-    rw p.1 (part_row _ _ _ (rules_of c.args.table.now) c.args.props.now c.loop-row.row (omega (arith, length-map c.args.table.now.rows.now rule_of, c.args.table.now.sized)) c.loop-row.invariant c.in_err-write_row.ensures)
+    rw p.1
+    (part_row _ _ _ (rules_of c.args.table.now) c.args.props.now c.loop-row.row (omega (arith, length-map c.args.table.now.rows.now rule_of, c.args.table.now.sized))
+    c.loop-row.invariant c.in_err-write_row.ensures)
 
 pub loop-row-preserved : goal.loop-row-preserved
 loop-row-preserved g c =
-    whole_row _ _ _ (rules_of c.args.table.now) c.args.props.now c.loop-row.row (omega (arith, length-map c.args.table.now.rows.now rule_of, c.args.table.now.sized)) c.loop-row.invariant c.in_ok-write_row.ensures
+    whole_row _ _ _ (rules_of c.args.table.now) c.args.props.now c.loop-row.row (omega (arith, length-map c.args.table.now.rows.now rule_of, c.args.table.now.sized))
+    c.loop-row.invariant c.in_ok-write_row.ensures
