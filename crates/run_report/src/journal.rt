@@ -49,10 +49,3 @@ pub struct Journal {
     pub surfaces: Items<SurfacePart>,
     pub actors: Items<ActorPart>,
 }
-
-fn needs_send<T: Send + Sync>(_value: &T) {}
-
-/// Journals are shared by threads.
-pub fn is_shared_by_threads(journal: &Journal) {
-    needs_send(journal);
-}
