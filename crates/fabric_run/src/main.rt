@@ -2,6 +2,8 @@
 #![tactic(auto)]
 
 mod status;
+#[cfg(test)]
+mod tests;
 mod top;
 mod turns;
 mod words;

@@ -6,6 +6,7 @@ ghost use Rattle.tree_revision.specs.FirstForm.{IsFirstForm};
 ghost use Rattle.script_read.specs.Plain.{plain_script};
 ghost use Rattle.run_report.specs.Journal.{plain_journal};
 ghost use Rattle.run_report.specs.Alone.{journal_of_script};
+ghost use Rattle.run_report.specs.Named.{NamesItsActors};
 
 mod alone;
 mod gate;
@@ -20,9 +21,11 @@ use std::alloc::{AllocError, Global};
 /// Runs a script by its list of turns, and answers the journal of the run. It waits for nobody.
 ///
 /// So far a script has one surface and one actor, which takes its steps in their order.
+#[tactic(auto, using(crate::proofs::Names::names_of_run))]
 pub fn run_turns(alloc: Global, made: &mut Made, script: &Script) -> Result<Journal, AllocError>
     requires { IsFirstForm (plain_script script.now) }
-    ensures { IfOk result (λ journal. plain_journal journal ≡ journal_of_script (plain_script script.now)) }
+    ensures journal { IfOk result (λ journal. plain_journal journal ≡ journal_of_script (plain_script script.now)) }
+    ensures names { IfOk result (λ journal. NamesItsActors (plain_journal journal)) }
 {
     let [surface] = script.surfaces.as_slice() else {
         unreachable!()
