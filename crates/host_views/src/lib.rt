@@ -1,6 +1,9 @@
 //! Host views: what the platform shows, and the mutations that change it.
 #![tactic(auto)]
 
+ghost use Rattle.std.specs.Prelude.{◌≡◌, ◌↔◌, IsTrue};
+ghost use Rattle.host_views.specs.Same.{is_same_props, is_same_view};
+
 use native_state::StateCell;
 use prop_table::{Label, NodeProps};
 use shadow_frame::Rect;
@@ -17,6 +20,33 @@ pub struct HostView {
     pub state: Option<StateCell>,
     /// The frame in the host parent.
     pub frame: Rect,
+}
+
+impl HostView {
+    /// Whether two views are equal in every part.
+    pub fn is_same(&self, other: &HostView) -> bool
+        ensures parts { result ≡ is_same_view self.now other.now }
+        ensures equal { IsTrue result ↔ (self.now ≡ other.now) }
+    {
+        self.has_same_parts(other)
+    }
+
+    fn has_same_parts(&self, other: &HostView) -> bool
+        ensures { result ≡ is_same_view self.now other.now }
+    {
+        self.kind == other.kind
+            && are_same_props(&self.props, &other.props)
+            && self.label.bytes() == other.label.bytes()
+            && self.state == other.state
+            && self.frame == other.frame
+    }
+}
+
+/// Whether each row is the same.
+fn are_same_props(a: &NodeProps, b: &NodeProps) -> bool
+    ensures { result ≡ is_same_props a.now b.now }
+{
+    a.is_same(b)
 }
 
 /// A shared view.

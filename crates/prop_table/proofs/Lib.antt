@@ -4,3 +4,9 @@ pub mod Differences
 pub mod Names
 pub mod NodeRows
 pub mod Widening
+pub mod Joined
+pub mod Slots
+pub mod Merging
+pub mod PairText
+pub mod Sameness
+pub mod NamedRows

@@ -6,3 +6,7 @@ pub mod Rules
 pub mod PairText
 pub mod Refusal
 pub mod Widened
+pub mod Joined
+pub mod Slots
+pub mod Edits
+pub mod Marks

@@ -31,7 +31,9 @@ impl Model for Label {
 /// Why a text is no label.
 #[derive(Clone, Copy, Debug, PartialEq, Eq)]
 pub enum LabelRefusal {
+    /// It has more than 256 bytes.
     TooLong,
+    /// There is no memory for it.
     Memory,
 }
 

@@ -4,6 +4,7 @@
 mod edit;
 mod label;
 mod lookup;
+mod mark;
 mod props;
 pub mod rows;
 mod table;
@@ -12,7 +13,7 @@ mod tables;
 mod tests;
 mod text;
 
-pub use edit::PropEdit;
+pub use edit::{PropEdit, widen, widen_edit};
 pub use label::{Label, LabelRefusal};
 pub use lookup::OutOfRange;
 pub use props::{Props, changed};
@@ -22,5 +23,5 @@ pub use tables::{node_table, v1_table};
 /// The props of a node.
 pub type NodeProps = Props<22>;
 
-/// A change of a node's props.
+/// An edit of a node's props.
 pub type EditRows = PropEdit<22>;

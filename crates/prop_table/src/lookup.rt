@@ -13,7 +13,7 @@ pub struct OutOfRange;
 
 impl Row {
     /// Whether a number is in the row's range, or absent where the row may begin so.
-    fn takes(&self, value: Option<i64>) -> bool
+    pub(crate) fn takes(&self, value: Option<i64>) -> bool
         ensures { IsTrue result ↔ IsInRow (rule_of self.now) value }
     {
         match value {

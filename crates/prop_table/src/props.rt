@@ -1,31 +1,37 @@
 //! One optional number for each row of a table.
 
 ghost use Rattle.std.specs.Prelude.{◌≡◌, ◌≢◌, ℕ, None, ◌<◌, ◌≤◌, ◌↔◌, length, slice_set, replicate};
+ghost use Rattle.std.specs.Bool.{Decides};
 ghost use Rattle.std.specs.Int.{bit_at};
 ghost use Rattle.prop_table.specs.Props.{value_at};
 
 use std::marker::Model;
 
-/// One optional number for each row of a table of `N` rows.
+/// One optional number for each row of a table of `N` rows: whether it is given, beside the number
+/// that it then is, and 0 where it is absent.
 #[derive(Clone, Copy, Debug, PartialEq, Eq)]
 pub struct Props<const N: usize> {
-    rows: [Option<i64>; N],
+    given: [bool; N],
+    numbers: [i64; N],
 }
 
 impl<const N: usize> Model for Props<N> {
-    ghost use Rattle.std.specs.Prelude.{◌≡◌, length};
+    ghost use Rattle.std.specs.Prelude.{map, is_some};
     ghost use Rattle.std.specs.Coded.{coded_list, coded_option, coded_ℤ};
     ghost use Rattle.prop_table.specs.Props.{PropList};
+    ghost use Rattle.prop_table.specs.Slots.{slots, number_or_zero, AreSlots};
 
     ghost Value = { PropList };
 
     ghost coded = { coded_list (coded_option coded_ℤ) };
 
-    ghost view = { λ p. p.rows };
+    ghost view = { λ p. slots p.given p.numbers };
 
-    ghost invariant = { λ p. length p.rows ≡ N };
+    ghost invariant = { λ p. AreSlots N p.given p.numbers };
 
-    ghost inverse = { λ v. record { rows = v } };
+    ghost inverse = { λ v. record { given = map is_some v; numbers = map number_or_zero v } };
+
+    ghost inverse_ok = { λ p h i. record { given = h.first_back i; numbers = h.second_back i } };
 }
 
 impl<const N: usize> Props<N> {
@@ -33,7 +39,10 @@ impl<const N: usize> Props<N> {
     pub(crate) fn absent() -> Props<N>
         ensures { result ≡ replicate N None }
     {
-        Props { rows: [None; N] }
+        Props {
+            given: [false; N],
+            numbers: [0; N],
+        }
     }
 
     /// How many rows there are.
@@ -41,8 +50,15 @@ impl<const N: usize> Props<N> {
         ensures value { result ≡ N }
         ensures count { length self.now ≡ N }
     {
-        let rows = &self.rows;
-        rows.len()
+        let given = &self.given;
+        given.len()
+    }
+
+    /// Whether each row is the same in both.
+    pub fn is_same(&self, other: &Props<N>) -> bool
+        ensures { Decides result (self.now ≡ other.now) }
+    {
+        self == other
     }
 
     /// The number in a row, `None` where it is absent.
@@ -50,7 +66,11 @@ impl<const N: usize> Props<N> {
         requires { row < N }
         ensures { result ≡ value_at self.now row }
     {
-        self.rows[row]
+        if self.given[row] {
+            Some(self.numbers[row])
+        } else {
+            None
+        }
     }
 
     /// Puts a number into a row, or makes it absent.
@@ -59,7 +79,8 @@ impl<const N: usize> Props<N> {
         ensures value { self.new ≡ slice_set self.old row value }
         ensures count { length self.new ≡ N }
     {
-        self.rows[row] = value;
+        self.given[row] = value.is_some();
+        self.numbers[row] = value.unwrap_or(0);
     }
 }
 

@@ -6,13 +6,17 @@ ghost use Rattle.prop_table.specs.Rows.{have_short_names};
 /// One row of a table.
 #[derive(Clone, Copy, Debug)]
 pub struct Row {
+    /// What the row is called, in at most sixteen bytes.
     pub name: &'static str,
+    /// The least number that it takes.
     pub low: i64,
+    /// The greatest number that it takes.
     pub high: i64,
+    /// What it begins with: a number, or `None` where it may be absent.
     pub start: Option<i64>,
 }
 
-/// A table of `N` rows.
+/// A table of `N` rows, whose names have at most sixteen bytes.
 #[derive(Clone, Copy)]
 pub struct PropTable<const N: usize> {
     pub rows: &'static [Row],
@@ -20,6 +24,7 @@ pub struct PropTable<const N: usize> {
     ghost short_names: { IsTrue (have_short_names rows.now) },
 }
 
+// A row, from its name, low, high and start.
 macro_rules! row {
     ($name:literal, $low:expr, $high:expr, $start:expr) => {
         Row {
@@ -31,6 +36,7 @@ macro_rules! row {
     };
 }
 
+// The rows of version 1, and more after them.
 macro_rules! rows_then {
     ($($more:expr),*) => {
         [

@@ -2,7 +2,10 @@
 
 ghost use Rattle.std.specs.Prelude.{◌≤◌};
 
-use crate::{Label, LabelRefusal, NODE_TABLE, OutOfRange, PropTable, V1, changed};
+use crate::{
+    Label, LabelRefusal, NODE_TABLE, OutOfRange, PropEdit, PropTable, V1, changed, rows, widen,
+    widen_edit,
+};
 use std::process::Abort;
 use std::test::Fail;
 
@@ -44,6 +47,34 @@ fn tables_at_their_edges(rt: HostRuntime) {
     each_row(&rt, &V1);
     each_row(&rt, &NODE_TABLE);
     assert_eq!(rt; NODE_TABLE.find(b"opacit"), None);
+}
+
+#[test]
+fn edits_are_merged(rt: HostRuntime) {
+    let start = V1.start();
+    let edit = PropEdit::empty();
+    let edit = match V1.edit(&edit, rows::LEFT, Some(7)) {
+        Ok(edit) => edit,
+        Err(OutOfRange) => edit,
+    };
+    let edit = match V1.edit(&edit, rows::TOP, None) {
+        Ok(edit) => edit,
+        Err(OutOfRange) => edit,
+    };
+    assert_eq!(rt; edit.get(rows::LEFT), Some(Some(7)));
+    assert_eq!(rt; edit.get(rows::TOP), Some(None));
+    assert_eq!(rt; edit.get(rows::OPACITY), None);
+    assert!(rt; V1.edit(&edit, rows::OPACITY, None).is_err());
+    let Ok(placed) = V1.set(&start, rows::TOP, Some(9)) else {
+        return;
+    };
+    let merged = V1.merge(&placed, &edit);
+    assert_eq!(rt; merged.get(rows::LEFT), Some(7));
+    assert_eq!(rt; merged.get(rows::TOP), None);
+    assert_eq!(rt; merged.get(rows::OPACITY), Some(100));
+    let wide = NODE_TABLE.merge(&widen(&placed), &widen_edit(&edit));
+    assert!(rt; wide.is_same(&widen(&merged)));
+    assert_eq!(rt; wide.get(rows::HIDDEN), Some(0));
 }
 
 #[test]

@@ -25,6 +25,7 @@ fn write_pair(name: &[u8], value: i64, buf: &mut [u8; 40]) -> usize
     requires { length name.now ≤ 16 }
     ensures text { take result buf.new ≡ named_text name.now value }
     ensures length { result ≡ length (named_text name.now value) }
+    ensures room { result ≤ 40 }
 {
     let mut digits = Buffer::new();
     let space = write_at(buf, 0, b" ");
@@ -41,6 +42,7 @@ impl<const N: usize> PropTable<N> {
         requires { row < N }
         ensures text { take result buf.new ≡ pair_text_of (rule_at (rules_of self.now) row) (value_at props.now row) }
         ensures length { result ≡ length (pair_text_of (rule_at (rules_of self.now) row) (value_at props.now row)) }
+        ensures room { result ≤ 40 }
         ensures unwritten { result ≡ 0 → buf.new ≡ buf.old }
     {
         let Some(value) = props.get(row) else {

@@ -1,5 +1,5 @@
 -- A script that was read, as plain data.
-use Rattle.std.specs.Prelude.{ℕ, List, map}
+use Rattle.std.specs.Prelude.{map}
 use Rattle.tree_revision.specs.Records.{plain_op}
 use Rattle.tree_revision.specs.Script.{PlainAct, commit, hold, mount, PlainStep, PlainActor, PlainSurface, PlainScript}
 use Rattle.script_read.specs.declared.script.Act.{Act}

@@ -1,5 +1,7 @@
 //! A script, and why a text is none.
 
+ghost use Rattle.std.specs.Prelude.{◌≡◌};
+
 use shadow_frame::Size;
 use sqlite_items::Items;
 use std::alloc::AllocError;
@@ -68,7 +70,14 @@ pub enum ScriptRefusal {
     Memory,
 }
 
+/// What is not of the form that is built so far.
+pub(crate) const UNBUILT: ScriptRefusal = ScriptRefusal::Fault(ScriptFault::Unbuilt);
+
 impl From<AllocError> for ScriptRefusal {
+    ghost use Rattle.script_read.specs.declared.script.ScriptRefusal.TheVariants.{Memory};
+
+    ghost from_gives = { λ _ refusal. refusal ≡ Memory };
+
     fn from(_: AllocError) -> ScriptRefusal {
         ScriptRefusal::Memory
     }

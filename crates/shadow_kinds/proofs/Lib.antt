@@ -1,2 +1,3 @@
 pub mod AxesInRange
 pub mod Widening
+pub mod Inverses

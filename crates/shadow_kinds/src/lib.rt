@@ -12,9 +12,14 @@ pub use words::{code, from_code, from_word, word};
 /// What a node is.
 #[derive(Clone, Copy, Debug, PartialEq, Eq)]
 pub enum Kind {
+    /// A box that may hold others.
     View,
+    /// A text.
     Text,
+    /// A picture.
     Image,
+    /// A box whose content may be moved, which is its state.
     Scroll,
+    /// A field to type into, whose content is its state.
     Input,
 }

@@ -1,6 +1,6 @@
 -- A node with a change.
-use Rattle.std.specs.Prelude.{ℕ, ℤ, List, Option, unwrap_or}
-use Rattle.prop_table.specs.Props.{merged}
+use Rattle.std.specs.Prelude.{unwrap_or}
+use Rattle.prop_table.specs.Edits.{merged}
 use Rattle.shadow_node.specs.declared.NodeEdit.{NodeEdit}
 use Rattle.shadow_node.specs.Fields.{NodeFields}
 

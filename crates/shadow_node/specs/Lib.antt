@@ -8,3 +8,4 @@ pub mod View
 pub mod ViewFalls
 pub mod Find
 pub mod Edit
+pub mod Walked

@@ -11,6 +11,10 @@ ghost use Rattle.shadow_node.specs.Forest.{none};
 ghost use Rattle.shadow_node.specs.Sound.{FitsLeaf, IsSoundNode};
 ghost use Rattle.shadow_node.specs.Falls.{forest_at};
 
+#[cfg(test)]
+mod tests;
+mod walks;
+
 pub use native_state::Made;
 use native_state::StateCell;
 use prop_table::{EditRows, Label, NodeProps};
@@ -19,6 +23,7 @@ use shadow_kinds::Kind;
 use std::alloc::{AllocError, Global};
 use std::marker::Model;
 use std::sync::Arc;
+pub use walks::{count, depth, find, path_to};
 
 /// A node of a shadow tree.
 #[cycle(node)]

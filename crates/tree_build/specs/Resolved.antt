@@ -1,5 +1,5 @@
 -- The forest that script nodes name.
-use Rattle.std.specs.Prelude.{ℕ, List, [], ◌∷◌, Option, Some, None, unwrap_or, nat_eq, if◌then◌else◌}
+use Rattle.std.specs.Prelude.{Option, Some, None}
 use Rattle.shadow_node.specs.declared.NodeEdit.{NodeEdit}
 use Rattle.shadow_node.specs.Forest.{PlainForest, none, node, PlainNode}
 use Rattle.shadow_node.specs.Fields.{NodeFields}

@@ -1,7 +1,6 @@
 -- The script nodes that are built so far: views that are written out.
-use Rattle.std.specs.Prelude.{◌≡◌, ℕ, ◌≤◌, ◌<◌, ◌^◌, List, Option}
+use Rattle.std.specs.Prelude.{◌≡◌, ◌≤◌, ◌<◌, ◌^◌}
 use Rattle.prop_table.specs.Table.{AreNodeProps}
-use Rattle.shadow_kinds.specs.declared.Kind.{Kind}
 use Rattle.shadow_kinds.specs.declared.Kind.TheVariants.{View}
 use Rattle.shadow_kinds.specs.Traits.{forms_context_of}
 use Rattle.shadow_node.specs.Fields.{NodeFields}

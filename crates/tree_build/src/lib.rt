@@ -1,6 +1,11 @@
 //! Forests from the nodes of a script.
 #![tactic(auto)]
 
+mod builds;
+#[cfg(test)]
+mod tests;
+
+pub use builds::{BuildRefusal, build};
 use prop_table::{Label, NodeProps};
 use shadow_kinds::Kind;
 use shadow_node::NodeEdit;

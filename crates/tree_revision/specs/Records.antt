@@ -3,7 +3,7 @@ use Rattle.std.specs.Prelude.{ℕ, List}
 use Rattle.shadow_frame.specs.declared.Size.{Size}
 use Rattle.native_state.specs.declared.StateChange.{StateChange}
 use Rattle.shadow_node.specs.declared.NodeEdit.{NodeEdit}
-use Rattle.tree_build.specs.Script.{ScriptForest, script_forest}
+use Rattle.tree_build.specs.Script.{ScriptForest, no_more, script_forest}
 use Rattle.tree_revision.specs.declared.record.Op.{Op}
 use Rattle.tree_revision.specs.declared.record.Op.TheVariants.{Complete, State, Props, Size as SizeOp, Stop, Suspend, Resume}
 use Rattle.tree_revision.specs.declared.record.Record.{Record}
@@ -38,3 +38,13 @@ plain_op Resume = resume
 -- a record without pointers
 abbrev pub plain_record : Record → PlainRecord
 plain_record entry = record { actor = entry.actor; call = entry.call; held = entry.held; op = plain_op entry.op.value }
+
+-- the nodes that a change names; only a complete names any
+abbrev pub nodes_of : PlainOp → ScriptForest
+nodes_of (complete nodes) = nodes
+nodes_of (state tag change) = no_more
+nodes_of (props tag change) = no_more
+nodes_of (resize size) = no_more
+nodes_of stop = no_more
+nodes_of suspend = no_more
+nodes_of resume = no_more

@@ -1,8 +1,10 @@
 //! Revisions of a surface, and the records that lead from one to the next.
 #![tactic(auto)]
 
+mod next;
 mod record;
 mod revision;
 
+pub use next::{PrepareRefusal, prepare};
 pub use record::{Answer, Cancel, Op, Record};
 pub use revision::Revision;

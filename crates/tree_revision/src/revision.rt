@@ -1,9 +1,13 @@
 //! A revision of a surface.
 
-ghost use Rattle.std.specs.Prelude.{◌≡◌, IfOk};
+ghost use Rattle.std.specs.Prelude.{◌≡◌, [], IfOk};
+ghost use Rattle.shadow_node.specs.Forest.{none};
+ghost use Rattle.tree_settle.specs.Limits.{IsSizeInRange, IsForestInLimits};
+ghost use Rattle.tree_revision.specs.History.{StandsFor};
 
 use shadow_frame::Size;
 use shadow_node::Forest;
+use std::alloc::{AllocError, Global};
 use std::marker::Model;
 
 /// A surface after some number of commits: its size, and its forest with each node's state and frame.
@@ -27,6 +31,30 @@ impl Model for Revision {
 }
 
 impl Revision {
+    /// A surface of that size before its first commit: number 0, and an empty forest.
+    pub fn opening(_alloc: Global, size: Size) -> Result<Revision, AllocError>
+        requires { IsSizeInRange size }
+        ensures value { IfOk result (λ first. first ≡ record { number = 0; size = size; forest = none }) }
+        ensures stands { IfOk result (λ first. StandsFor size first []) }
+    {
+        Ok(Revision {
+            number: 0,
+            size,
+            forest: Forest::empty(),
+        })
+    }
+
+    /// The same revision, shared.
+    pub fn share(&self) -> Result<Revision, AllocError>
+        ensures { IfOk result (λ revision. revision ≡ self.now) }
+    {
+        Ok(Revision {
+            number: self.number,
+            size: self.size,
+            forest: self.forest.share()?,
+        })
+    }
+
     /// How many commits were admitted before it.
     pub fn number(&self) -> u64
         ensures { result ≡ self.now.number }
@@ -43,7 +71,8 @@ impl Revision {
 
     /// The nodes.
     pub fn forest(&self) -> &Forest
-        ensures { result.now ≡ self.now.forest }
+        ensures forest { result.now ≡ self.now.forest }
+        ensures limits { IsForestInLimits result.now }
     {
         &self.forest
     }

@@ -1,8 +1,8 @@
 -- The limits that the forest of a revision keeps.
-use Rattle.std.specs.Prelude.{◌≡◌, ℤ, pos, neg_ℤ, negsuc, ◌≤ℤ◌, ◌≤◌, ℕ, Bool, false, List, length}
+use Rattle.std.specs.Prelude.{◌≡◌, pos, negsuc, ◌≤ℤ◌, ◌≤◌, false}
 use Rattle.shadow_frame.specs.declared.Rect.{Rect}
 use Rattle.shadow_frame.specs.declared.Size.{Size}
-use Rattle.shadow_kinds.specs.Traits.{forms_context_of}
+use Rattle.shadow_kinds.specs.Traits.{forms_context_of, has_state_of}
 use Rattle.shadow_node.specs.Forest.{PlainForest, none, node, depth_of, node_count}
 use Rattle.shadow_node.specs.Fields.{SettledFields}
 
@@ -24,6 +24,12 @@ abbrev pub HasNoContext : PlainForest SettledFields → Type 0
 HasNoContext none = Unit {0}
 HasNoContext (node settled children siblings) =
     (forms_context_of settled.fields.kind settled.fields.props ≡ false) × HasNoContext children × HasNoContext siblings
+
+-- no node's kind has a state
+abbrev pub AreStateless : PlainForest SettledFields → Type 0
+AreStateless none = Unit {0}
+AreStateless (node settled children siblings) =
+    (has_state_of settled.fields.kind ≡ false) × AreStateless children × AreStateless siblings
 
 -- a surface's size is from 0 to 1,000,000 points each way
 pub record IsSizeInRange (size : Size) : Type 0 where

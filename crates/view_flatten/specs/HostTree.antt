@@ -6,7 +6,7 @@ use Rattle.shadow_kinds.specs.Traits.{forms_view_of}
 use Rattle.shadow_node.specs.Forest.{PlainForest, none, node}
 use Rattle.shadow_node.specs.Fields.{SettledFields}
 use Rattle.host_views.specs.declared.HostView.{HostView}
-use Rattle.host_views.specs.Plain.{PlainPlacedView, PlainHostTree}
+use Rattle.host_views.specs.Plain.{PlainHostTree}
 
 -- a node with its ancestors, the nearest first
 pub record Descendant : Type 0 where

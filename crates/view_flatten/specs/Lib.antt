@@ -1,1 +1,2 @@
 pub mod HostTree
+pub mod Walk

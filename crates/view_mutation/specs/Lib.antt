@@ -1,1 +1,2 @@
 pub mod Mutations
+pub mod Lookups

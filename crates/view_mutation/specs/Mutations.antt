@@ -1,8 +1,8 @@
 -- The mutations that lead from one host tree to another: five lists, one after the other.
-use Rattle.std.specs.Prelude.{ℕ, ◌+◌, List, [], ◌∷◌, ◌++◌, Bool, true, false, not, Option, Some, None, nat_eq, if◌then◌else◌, filter, map, drop}
+use Rattle.std.specs.Prelude.{ℕ, ◌+◌, List, [], ◌∷◌, ◌++◌, Bool, false, not, Option, Some, None, nat_eq, if◌then◌else◌, filter, map, drop}
 use Rattle.std.specs.List.{flat_map, list_any}
 use Rattle.host_views.specs.declared.HostView.{HostView}
-use Rattle.host_views.specs.Plain.{PlainPlacedView, PlainHostTree, PlainMutation, create, delete, insert, remove, update}
+use Rattle.host_views.specs.Plain.{PlainHostTree, PlainMutation, create, delete, insert, remove, update}
 use Rattle.host_views.specs.Same.{is_same_view}
 
 -- the tags of a host tree

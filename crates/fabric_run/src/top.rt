@@ -1,0 +1,46 @@
+//! The top call: all that the program does.
+
+ghost use Rattle.std.specs.Prelude.{◌≡◌, ◌↔◌, ℕ, List, Some, Ok};
+ghost use Rattle.tree_revision.specs.Script.{PlainScript};
+ghost use Rattle.script_read.specs.FirstScript.{script_in};
+ghost use Rattle.fabric_run.specs.Outcome.{TurnsLeave, HasRisen, IsDoneOrMemory};
+ghost use Rattle.fabric_run.specs.Words.{AreTurns};
+
+use crate::status::Status;
+use crate::turns::fabric_turns;
+use crate::words::are_turns;
+use byte_ports::{Sink, Source};
+use run_engine::Gate;
+use shadow_node::Made;
+use std::alloc::Global;
+use std::sync::Wait;
+use std::thread::Threads;
+
+/// Does all that the program does: it reads the words, then the source, runs the script, and writes to `out`.
+///
+/// `Usage` comes exactly where the words are not `turns` alone; then nothing is read and nothing is written.
+/// What the other answers say and leave is the contract of `fabric_turns`. So far nothing is written to `err`.
+#[tactic(auto, using(crate::proofs::Outcome::complete))]
+pub fn fabric_main<R: Threads + Wait + Sync, S: Source, K: Sink, E: Sink, G: Gate + Sync>(
+    rt: &R,
+    alloc: Global,
+    words: &[String],
+    source: &mut S,
+    out: &mut K,
+    err: &mut E,
+    gate: &G,
+) -> Status
+    ensures usage { (result ≡ Usage) ↔ (¬ AreTurns words.now) }
+    ensures turns { AreTurns words.now → TurnsLeave (S.source_view source.old) (S.source_view source.new) (K.sink_view out.old) (K.sink_view out.new) result }
+    ensures complete { (bytes : List ℕ) (script : PlainScript) → AreTurns words.now → (S.source_view source.old).left ≡ Some bytes → script_in bytes ≡ Ok script → ¬ HasRisen (S.source_view source.old).faults (S.source_view source.new).faults → ¬ HasRisen (K.sink_view out.old).faults (K.sink_view out.new).faults → IsDoneOrMemory result }
+    ensures source { (¬ AreTurns words.now) → S.source_view source.new ≡ S.source_view source.old }
+    ensures out { (¬ AreTurns words.now) → K.sink_view out.new ≡ K.sink_view out.old }
+    ensures err { E.sink_view err.new ≡ E.sink_view err.old }
+{
+    let _ = gate;
+    if !are_turns(words) {
+        return Status::Usage;
+    }
+    let mut made = Made::start(rt);
+    fabric_turns(alloc, &mut made, source, out, err)
+}

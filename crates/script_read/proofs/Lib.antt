@@ -1,0 +1,10 @@
+pub mod Entries
+pub mod Fronts
+pub mod Trees
+pub mod Reading
+pub mod Items
+pub mod Views
+pub mod Scripts
+pub mod Ranges
+pub mod PlainViews
+pub mod FirstForm

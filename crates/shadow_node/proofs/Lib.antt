@@ -1,0 +1,5 @@
+pub mod Trees
+pub mod Counted
+pub mod Maps
+pub mod Depths
+pub mod Found

@@ -1,0 +1,3 @@
+pub mod Revisions
+pub mod Stands
+pub mod Trees

@@ -1,0 +1,31 @@
+-- The lists of mutations that go by tags, from what is known at each tag.
+use Rattle.std.specs.Prelude.{◌≡◌, ℕ, List, ◌++◌, not, Option, is_some, filter, map}
+use Rattle.std.specs.Option.{option_map}
+use Rattle.std.specs.Ordering.{nat_cmp}
+use Rattle.std.specs.BTreeMap.{BTreeMap, get}
+use Rattle.std.specs.declared.sync.Arc.{Arc}
+use Rattle.std.specs.declared.alloc.Global.{Global}
+use Rattle.host_views.specs.declared.HostView.{HostView}
+use Rattle.host_views.specs.declared.Mutation.{Mutation}
+use Rattle.host_views.specs.Plain.{PlainHostTree, PlainMutation, create, delete, update, plain_mutation}
+use Rattle.view_mutation.specs.Mutations.{is_other_view}
+
+-- the view that an index has at a tag
+abbrev pub indexed : BTreeMap ℕ (Arc HostView Global) → ℕ → Option HostView
+indexed index tag = option_map (λ view. view.value) (get nat_cmp index tag)
+
+-- deletes of the views whose tags are not known
+abbrev pub deletes_by : (ℕ → Option HostView) → PlainHostTree → List PlainMutation
+deletes_by known old = map (λ placed. delete placed.tag) (filter (λ placed. not (is_some (known placed.tag))) old)
+
+-- creates of the views whose tags are not known
+abbrev pub creates_by : (ℕ → Option HostView) → PlainHostTree → List PlainMutation
+creates_by known new = map (λ placed. create placed.tag placed.view) (filter (λ placed. not (is_some (known placed.tag))) new)
+
+-- updates of the views that differ from what is known at their tags
+abbrev pub updates_by : (ℕ → Option HostView) → PlainHostTree → List PlainMutation
+updates_by known new = map (λ placed. update placed.tag placed.view) (filter (λ placed. is_other_view (known placed.tag) placed.view) new)
+
+-- these mutations were added at the end
+pub record IsListed (old : List Mutation) (more : List PlainMutation) (new : List Mutation) : Type 0 where
+  pub listed : map plain_mutation new ≡ map plain_mutation old ++ more
