@@ -52,7 +52,8 @@ pub struct Journal {
 
 fn needs_send<T: Send + Sync>(_value: &T) {}
 
-/// Journals are shared by threads.
-pub fn is_shared_by_threads(journal: &Journal) {
-    needs_send(journal);
+/// What a journal holds is shared by threads.
+pub fn are_shared_by_threads(surfaces: &Items<SurfacePart>, actors: &Items<ActorPart>) {
+    needs_send(surfaces);
+    needs_send(actors);
 }
