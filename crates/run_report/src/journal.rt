@@ -49,3 +49,11 @@ pub struct Journal {
     pub surfaces: Items<SurfacePart>,
     pub actors: Items<ActorPart>,
 }
+
+fn needs_send<T: Send + Sync>(_value: &T) {}
+
+/// What a journal holds is shared by threads.
+pub fn are_shared_by_threads(surfaces: &Items<SurfacePart>, actors: &Items<ActorPart>) {
+    needs_send(surfaces);
+    needs_send(actors);
+}
