@@ -1,12 +1,18 @@
 -- A run of one actor alone names that actor and no other.
 use Rattle.std.proofs.Common.{◌≡◌, ℕ, ◌+◌, ◌<◌, List, [], ◌∷◌, length, arith, sym, subst, Bool, true, false, cond}
-use Rattle.std.specs.Prelude.{nat_eq, ◌++◌, None}
+use Rattle.std.specs.Prelude.{nat_eq, ◌++◌, None, Result, Ok, Err, IfOk}
+use Rattle.std.specs.declared.alloc.AllocError.{AllocError}
 use Rattle.std.proofs.lemmas.List.Elements.{All-nil, All-cons, All-push}
 use Rattle.shadow_frame.specs.declared.Size.{Size}
-use Rattle.tree_revision.specs.Script.{PlainAct, commit, hold, mount, PlainStep, PlainActor, PlainSurface, PlainScript}
-use Rattle.tree_revision.specs.FirstForm.{IsFirstForm}
-use Rattle.run_report.specs.Journal.{PlainMount, PlainJournal}
-use Rattle.run_report.specs.Alone.{Progress, begun, after_act, after_empty_mount, after_full_mount, after_steps, closed_mounts, mount_of, journal_alone, journal_of_script}
+use Rattle.tree_revision.specs.Script.{PlainAct, commit, hold, mount, PlainStep, PlainActor, PlainSurface}
+use Rattle.script_read.specs.declared.script.SurfacePlan.{SurfacePlan}
+use Rattle.script_read.specs.declared.script.ActorPlan.{ActorPlan}
+use Rattle.script_read.specs.Plain.{plain_surface, plain_actor}
+use Rattle.run_engine.specs.declared.alone.Run.{Run}
+use Rattle.run_engine.specs.Run.{HasCome}
+use Rattle.run_report.specs.declared.journal.Journal.{Journal}
+use Rattle.run_report.specs.Journal.{plain_journal}
+use Rattle.run_report.specs.Alone.{Progress, begun, after_act, after_empty_mount, after_full_mount, after_steps, closed_mounts, mount_of, journal_after}
 use Rattle.run_report.specs.Named.{AreByActors, AreMountedByActors, IsByActor, NamesActors, NamesItsActors}
 
 -- the records and the mounts so far are the one actor's
@@ -44,15 +50,16 @@ by_one-closed first end h =
 by_one-begun : IsByOne begun
 by_one-begun = record { records = All-nil (λ entry. entry.actor < 1); mounts = All-nil (λ part. IsByActor 1 part.by) }
 
-names_alone : (surface : PlainSurface) (actor : PlainActor) → NamesItsActors (journal_alone surface actor)
-names_alone surface actor =
-    let end : IsByOne (after_steps surface.size 0 actor.steps begun) = by_one-steps surface.size 0 actor.steps begun by_one-begun in
-    All-cons (NamesActors 1) _ [] (record { records = end.records; mounts = by_one-closed surface.size (after_steps surface.size 0 actor.steps begun) end }) (All-nil (NamesActors 1))
+names_after : (surface : PlainSurface) (actor : PlainActor) (end : Progress) → IsByOne end → NamesItsActors (journal_after surface actor end)
+names_after surface actor end h =
+    All-cons (NamesActors 1) _ [] (record { records = h.records; mounts = by_one-closed surface.size end h }) (All-nil (NamesActors 1))
 
--- the journal of a script of the first form names its actor alone
-pub names_of_script : (script : PlainScript) → IsFirstForm script → NamesItsActors (journal_of_script script)
-names_of_script script form = rw (form.surfaces, form.actors) (names_alone form.surface form.actor)
-
--- and so does a journal that is this one
-pub names_of_run : (script : PlainScript) (journal : PlainJournal) → IsFirstForm script → journal ≡ journal_of_script script → NamesItsActors journal
-names_of_run script journal form same = subst NamesItsActors (sym same) (names_of_script script form)
+-- so does the journal of a run that came to its end after these steps
+pub names_of_run : (surface : SurfacePlan) (actor : ActorPlan) (run : Run) (steps : List PlainStep) (answer : Result Journal AllocError)
+    → HasCome surface.size run (after_steps surface.size 0 steps begun)
+    → IfOk answer (λ journal. (end : Progress) → HasCome surface.size run end → plain_journal journal ≡ journal_after (plain_surface surface) (plain_actor actor) end)
+    → IfOk answer (λ journal. NamesItsActors (plain_journal journal))
+names_of_run surface actor run steps (Ok journal) come same =
+    let end : Progress = after_steps surface.size 0 steps begun in
+    subst NamesItsActors (sym (same end come)) (names_after (plain_surface surface) (plain_actor actor) end (by_one-steps surface.size 0 steps begun by_one-begun))
+names_of_run surface actor run steps (Err refusal) come same = tt

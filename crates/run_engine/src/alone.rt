@@ -10,6 +10,7 @@ ghost use Rattle.tree_revision.specs.Script.{mount};
 ghost use Rattle.script_read.specs.Plain.{plain_step, plain_act, plain_actor, plain_surface};
 ghost use Rattle.run_report.specs.Journal.{plain_journal, plain_mount};
 ghost use Rattle.run_report.specs.Alone.{Progress, begun, after_act, after_commit, after_steps, after_full_mount, after_empty_mount, journal_after, journal_alone, mount_of, closed_mounts};
+ghost use Rattle.run_report.specs.Named.{NamesItsActors};
 ghost use Rattle.run_engine.specs.Run.{HasCome};
 
 use host_views::HostTree;
@@ -225,7 +226,8 @@ pub(crate) fn run_alone(
     requires size { IsSizeInRange surface.now.size }
     requires steps { length actor.now.steps ≤ 2048 }
     requires acts { All (λ step. IsFirstAct step.act) (map plain_step actor.now.steps) }
-    ensures { IfOk result (λ journal. plain_journal journal ≡ journal_alone (plain_surface surface.now) (plain_actor actor.now)) }
+    ensures journal { IfOk result (λ journal. plain_journal journal ≡ journal_alone (plain_surface surface.now) (plain_actor actor.now)) }
+    ensures names { IfOk result (λ journal. NamesItsActors (plain_journal journal)) }
 {
     let mut run = Run::start(alloc, surface.size)?;
     for (call, step) in actor.steps.as_slice().iter().enumerate() {

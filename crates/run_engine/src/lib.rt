@@ -21,7 +21,6 @@ use std::alloc::{AllocError, Global};
 /// Runs a script by its list of turns, and answers the journal of the run. It waits for nobody.
 ///
 /// So far a script has one surface and one actor, which takes its steps in their order.
-#[tactic(auto, using(crate::proofs::Names::names_of_run))]
 pub fn run_turns(alloc: Global, made: &mut Made, script: &Script) -> Result<Journal, AllocError>
     requires { IsFirstForm (plain_script script.now) }
     ensures journal { IfOk result (λ journal. plain_journal journal ≡ journal_of_script (plain_script script.now)) }

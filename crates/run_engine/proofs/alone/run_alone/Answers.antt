@@ -1,7 +1,9 @@
-use Rattle.std.proofs.Common.{rules, arith}
+use Rattle.std.proofs.Common.{arith, map, take}
 use Rattle.tree_revision.specs.FirstForm.{IsFirstAct}
 use Rattle.run_report.specs.Alone.{begun, after_steps}
 use Rattle.run_engine.proofs.Steps.{step_holds, come_further}
+use Rattle.script_read.specs.Plain.{plain_step}
+use Rattle.run_engine.proofs.Names.{names_of_run}
 use Rattle.run_engine.proofs.alone.run_alone.Goals as goal
 
 pub take-requires-clause-act : goal.take-requires-clause-act
@@ -15,3 +17,7 @@ loop-call-preserved c = record {
       c.loop-call-test.true c.step-item.is (c.in_ok-take.ensures.come c.args.surface.now.size _ c.loop-call.invariant.come);
   number = omega (arith, c.in_ok-take.ensures.number, c.loop-call.invariant.number);
 }
+
+pub returns-clause-names : goal.returns-clause-names
+returns-clause-names c =
+    names_of_run c.args.surface.now c.args.actor.now c.loop-call.run (map plain_step (take c.loop-call.call c.args.actor.now.steps)) c.finish.result c.loop-call.invariant.come c.finish.ensures
