@@ -5,6 +5,7 @@ ghost use Rattle.tree_revision.specs.Script.{PlainScript};
 ghost use Rattle.script_read.specs.FirstScript.{script_in};
 ghost use Rattle.fabric_run.specs.Outcome.{TurnsLeave, HasRisen, IsDoneOrMemory};
 ghost use Rattle.fabric_run.specs.Words.{AreTurns};
+ghost use Rattle.fabric_run.specs.declared.status.Status.TheVariants.{Usage};
 
 use crate::status::Status;
 use crate::turns::fabric_turns;
