@@ -1,5 +1,5 @@
 -- Where no count rose and the bytes are a script, the program is done, or there was no memory.
-use Rattle.std.proofs.Common.{◌≡◌, ℕ, List, sym, ◌∙◌}
+use Rattle.std.proofs.Common.{◌≡◌, ℕ, List}
 use Rattle.std.specs.Prelude.{Some, Ok, Err, Result}
 use Rattle.byte_ports.specs.Sources.{SourceView}
 use Rattle.byte_ports.specs.Sinks.{SinkView}

@@ -1,5 +1,5 @@
 -- What the program leaves, by its status.
-use Rattle.std.specs.Prelude.{◌≡◌, ℕ, List, [], Option, Some, Result, Ok, Err}
+use Rattle.std.specs.Prelude.{◌≡◌, ℕ, List, [], Some, Ok, Err}
 use Rattle.byte_ports.specs.Counts.{Rose}
 use Rattle.byte_ports.specs.Sources.{SourceView, IsToldAs}
 use Rattle.byte_ports.specs.Sinks.{SinkView, Whole, Part}

@@ -1,5 +1,5 @@
 -- Native state: how a change moves a cell.
-use Rattle.std.specs.Prelude.{ℕ, ℤ, pos, negsuc, ◌+◌, ◌+ℤ◌}
+use Rattle.std.specs.Prelude.{ℤ, pos, negsuc, ◌+◌, ◌+ℤ◌}
 use Rattle.std.specs.Int.{int_max, int_min}
 use Rattle.shadow_frame.specs.declared.Point.{Point}
 use Rattle.native_state.specs.declared.StateCell.{StateCell}

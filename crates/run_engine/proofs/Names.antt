@@ -1,5 +1,5 @@
 -- A run of one actor alone names that actor and no other.
-use Rattle.std.proofs.Common.{◌≡◌, ℕ, ◌+◌, ◌<◌, List, [], ◌∷◌, length, arith, sym, subst, Bool, true, false, cond}
+use Rattle.std.proofs.Common.{◌≡◌, ℕ, ◌+◌, ◌<◌, List, [], ◌∷◌, length, arith, sym, subst, true, false, cond}
 use Rattle.std.specs.Prelude.{nat_eq, ◌++◌, None, Result, Ok, Err, IfOk}
 use Rattle.std.specs.declared.alloc.AllocError.{AllocError}
 use Rattle.std.proofs.lemmas.List.Elements.{All-nil, All-cons, All-push}
@@ -30,9 +30,9 @@ by_one-act first call surface mount before h =
     elim (nat_eq (length before.records) before.base) as (λ same. IsByOne (cond same (after_empty_mount surface before) (after_full_mount first call surface before))) [
       | true ↦ record { records = h.records; mounts = h.mounts }
       | false ↦ record {
-          records = h.records;
-          mounts = All-push (λ part. IsByActor 1 part.by) before.mounts _ h.mounts (omega arith);
-        }
+        records = h.records;
+        mounts = All-push (λ part. IsByActor 1 part.by) before.mounts _ h.mounts (omega arith);
+      }
     ]
 
 by_one-steps : (first : Size) (call : ℕ) (steps : List PlainStep) (before : Progress) → IsByOne before → IsByOne (after_steps first call steps before)

@@ -1,8 +1,8 @@
 -- How far a run has come after one more step, and at its end.
-use Rattle.std.proofs.Common.{◌≡◌, ◌≢◌, ℕ, zero, suc, ◌+◌, ◌≤◌, ◌<◌, List, [], ◌∷◌, ◌++◌, length, take, map, arith, refl, ap, sym, ◌∙◌, length-append, subst, Bool, true, false, cond, get_or, drop, drop-cons, add-one}
+use Rattle.std.proofs.Common.{◌≡◌, ◌≢◌, ℕ, zero, suc, ◌+◌, ◌≤◌, ◌<◌, List, [], ◌∷◌, ◌++◌, length, take, map, arith, refl, ap, sym, ◌∙◌, length-append, subst, true, false, get_or, add-one}
 use Rattle.std.proofs.lemmas.List.{take-append-le, length-take}
 use Rattle.std.proofs.Math.Seq.{take-length, take-suc}
-use Rattle.std.specs.Prelude.{Option, Some, None, nat_eq, All}
+use Rattle.std.specs.Prelude.{None, nat_eq, All}
 use Rattle.std.proofs.lemmas.Bool.Decides.{nat_tests}
 use Rattle.std.specs.declared.sync.Arc.{Arc}
 use Rattle.std.specs.declared.alloc.Global.{Global}
@@ -18,7 +18,7 @@ use Rattle.script_read.specs.declared.script.Step.{Step}
 use Rattle.script_read.specs.Plain.{plain_step}
 use Rattle.run_report.specs.declared.journal.StepPart.{StepPart}
 use Rattle.run_report.specs.declared.journal.MountPart.{MountPart}
-use Rattle.run_report.specs.Journal.{plain_mount, PlainMount}
+use Rattle.run_report.specs.Journal.{plain_mount}
 use Rattle.run_report.specs.Alone.{Progress, answer_on, after_act, after_commit, after_steps, mount_of, closed_mounts}
 use Rattle.run_engine.specs.declared.alone.Run.{Run}
 use Rattle.run_engine.specs.Run.{HasCome}

@@ -1,5 +1,5 @@
 -- How far the engine's run of one actor has come.
-use Rattle.std.specs.Prelude.{◌≡◌, ℕ, ◌≤◌, length, map, take}
+use Rattle.std.specs.Prelude.{◌≡◌, ◌≤◌, length, map, take}
 use Rattle.shadow_frame.specs.declared.Size.{Size}
 use Rattle.tree_revision.specs.Records.{plain_record}
 use Rattle.tree_revision.specs.History.{StandsFor}

@@ -2,24 +2,18 @@
 use Rattle.std.proofs.Common.{◌≡◌, ℕ, ◌+◌, ◌≤◌, List, [], ◌∷◌, ◌++◌, length, take, arith, refl, ap, sym, ◌∙◌, length-append}
 use Rattle.shadow_frame.specs.declared.Size.{Size}
 use Rattle.native_state.specs.declared.StateCell.{StateCell}
-use Rattle.shadow_node.specs.Forest.{PlainForest, none, node, forest_map}
-use Rattle.shadow_node.specs.Fields.{NodeFields, SettledFields, contents_of}
-use Rattle.shadow_node.specs.Frames.{settled_forest, settled_below}
+use Rattle.shadow_node.specs.Forest.{PlainForest, node}
+use Rattle.shadow_node.specs.Fields.{NodeFields, contents_of}
+use Rattle.shadow_node.specs.Frames.{settled_forest}
 use Rattle.tree_build.specs.Script.{ScriptForest, no_more, written, kept, kept_with}
 use Rattle.tree_build.specs.Resolved.{resolved}
 use Rattle.tree_build.specs.WrittenViews.{AreWrittenViews}
-use Rattle.tree_revision.specs.Records.{PlainRecord, PlainOp, complete}
-use Rattle.tree_revision.specs.Revisions.{PlainRevision, revision_of, revision_after, with_forest}
+use Rattle.tree_settle.proofs.Settled.{contents_of-settled}
+use Rattle.tree_revision.specs.Records.{PlainRecord, complete}
+use Rattle.tree_revision.specs.Revisions.{revision_of, revision_after, with_forest}
 use Rattle.tree_revision.specs.Settled.{SettledRevision}
-use Rattle.tree_revision.specs.History.{StandsFor, settled_of, newest_state}
+use Rattle.tree_revision.specs.History.{StandsFor, newest_state}
 use Rattle.tree_revision.proofs.Revisions.{revision_of-next}
-
--- a settled forest has the contents that were settled
-pub contents_of-settled : (size : Size) (newest : ℕ → StateCell) (above : List NodeFields) (forest : PlainForest NodeFields)
-    → contents_of (settled_below size newest above forest) ≡ forest
-contents_of-settled size newest above none = refl
-contents_of-settled size newest above (node f k s) =
-    λ i. node f (contents_of-settled size newest (f ∷ above) k i) (contents_of-settled size newest above s i)
 
 -- written nodes name the same forest over any held one
 pub resolved-written : (nodes : ScriptForest) (a b : PlainForest NodeFields) → AreWrittenViews nodes → resolved a nodes ≡ resolved b nodes

@@ -1,5 +1,5 @@
 -- The scripts that the engine runs so far: one surface, one actor, and steps that complete a tree of written views or mount.
-use Rattle.std.specs.Prelude.{◌≡◌, ℕ, ◌≤◌, List, [], ◌∷◌, length}
+use Rattle.std.specs.Prelude.{◌≡◌, ◌≤◌, [], ◌∷◌, length}
 use Rattle.std.specs.Prelude.{All}
 use Rattle.tree_settle.specs.Limits.{IsSizeInRange}
 use Rattle.shadow_node.specs.Forest.{PlainForest, none, depth_of, node_count}
@@ -8,7 +8,7 @@ use Rattle.tree_build.specs.Script.{ScriptForest}
 use Rattle.tree_build.specs.WrittenViews.{AreWrittenViews}
 use Rattle.tree_build.specs.Resolved.{resolved}
 use Rattle.tree_revision.specs.Records.{PlainOp, complete, state, props, resize, stop, suspend, resume}
-use Rattle.tree_revision.specs.Script.{PlainAct, commit, hold, mount, PlainStep, PlainActor, PlainSurface, PlainScript}
+use Rattle.tree_revision.specs.Script.{PlainAct, commit, hold, mount, PlainActor, PlainSurface, PlainScript}
 
 -- the forest that script nodes write out by themselves
 abbrev pub written_out : ScriptForest → PlainForest NodeFields

@@ -2,7 +2,6 @@
 use Rattle.std.specs.Prelude.{◌≡◌, ℕ, List, [], ◌∷◌, length, nat_eq, if◌then◌else◌}
 use Rattle.shadow_frame.specs.declared.Size.{Size}
 use Rattle.native_state.specs.declared.StateCell.{StateCell}
-use Rattle.native_state.specs.declared.StateChange.{StateChange}
 use Rattle.native_state.specs.State.{cell_after, start_cell}
 use Rattle.shadow_node.specs.Forest.{PlainForest}
 use Rattle.shadow_node.specs.Fields.{SettledFields}

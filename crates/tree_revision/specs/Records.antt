@@ -1,5 +1,5 @@
 -- Commits as plain data.
-use Rattle.std.specs.Prelude.{ℕ, List}
+use Rattle.std.specs.Prelude.{ℕ}
 use Rattle.shadow_frame.specs.declared.Size.{Size}
 use Rattle.native_state.specs.declared.StateChange.{StateChange}
 use Rattle.shadow_node.specs.declared.NodeEdit.{NodeEdit}

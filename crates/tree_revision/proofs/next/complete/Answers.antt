@@ -1,14 +1,14 @@
-use Rattle.std.proofs.Common.{rules, arith, ap, sym, ◌∙◌, ◌≡◌, subst}
+use Rattle.std.proofs.Common.{ap, ◌∙◌, ◌≡◌}
 use Rattle.native_state.specs.Made.{nodes_more}
 use Rattle.shadow_node.specs.Forest.{none, node_count}
 use Rattle.shadow_node.specs.Fields.{contents_of}
 use Rattle.shadow_node.specs.Frames.{settled_forest}
 use Rattle.tree_build.specs.Script.{script_forest}
 use Rattle.tree_build.specs.Resolved.{resolved}
-use Rattle.tree_settle.specs.Limits.{HasNoContext, AreStateless}
 use Rattle.tree_revision.specs.FirstForm.{written_out}
+use Rattle.tree_build.proofs.Views.{contents_of-unsettled}
 use Rattle.tree_revision.proofs.Stands.{resolved-written}
-use Rattle.tree_revision.proofs.Trees.{no_context-built, stateless-built, depth_of-built, node_count-built, contents_of-unsettled}
+use Rattle.tree_revision.proofs.Trees.{no_context-built, stateless-built, depth_of-built, node_count-built}
 use Rattle.tree_revision.proofs.next.complete.Goals as goal
 
 pub settle-requires-clause-depth : goal.settle-requires-clause-depth
