@@ -79,3 +79,12 @@ IsDoneOrMemory Usage = ⊥
 IsDoneOrMemory ReadFault = ⊥
 IsDoneOrMemory WriteFault = ⊥
 IsDoneOrMemory Memory = Unit {0}
+
+-- that fault was answered, or there was no memory
+abbrev pub IsRefusedOrMemory : ScriptFault → Status → Type 0
+IsRefusedOrMemory fault Done = ⊥
+IsRefusedOrMemory fault (Refused answered) = answered ≡ fault
+IsRefusedOrMemory fault Usage = ⊥
+IsRefusedOrMemory fault ReadFault = ⊥
+IsRefusedOrMemory fault WriteFault = ⊥
+IsRefusedOrMemory fault Memory = Unit {0}

@@ -1,9 +1,10 @@
 //! The top call: all that the program does.
 
-ghost use Rattle.std.specs.Prelude.{◌≡◌, ◌↔◌, ℕ, List, Some, Ok};
+ghost use Rattle.std.specs.Prelude.{◌≡◌, ◌↔◌, ℕ, List, Some, Ok, Err};
 ghost use Rattle.tree_revision.specs.Script.{PlainScript};
 ghost use Rattle.script_read.specs.FirstScript.{script_in};
-ghost use Rattle.fabric_run.specs.Outcome.{TurnsLeave, HasRisen, IsDoneOrMemory};
+ghost use Rattle.script_read.specs.declared.script.ScriptFault.{ScriptFault};
+ghost use Rattle.fabric_run.specs.Outcome.{TurnsLeave, HasRisen, IsDoneOrMemory, IsRefusedOrMemory};
 ghost use Rattle.fabric_run.specs.Words.{AreTurns};
 ghost use Rattle.fabric_run.specs.declared.status.Status.TheVariants.{Usage};
 
@@ -21,7 +22,7 @@ use std::thread::Threads;
 ///
 /// `Usage` comes exactly where the words are not `turns` alone; then nothing is read and nothing is written.
 /// What the other answers say and leave is the contract of `fabric_turns`. So far nothing is written to `err`.
-#[tactic(auto, using(crate::proofs::Outcome::complete))]
+#[tactic(auto, using(crate::proofs::Outcome::complete, crate::proofs::Outcome::refused))]
 pub fn fabric_main<R: Threads + Wait + Sync, S: Source, K: Sink, E: Sink, G: Gate + Sync>(
     rt: &R,
     alloc: Global,
@@ -34,6 +35,7 @@ pub fn fabric_main<R: Threads + Wait + Sync, S: Source, K: Sink, E: Sink, G: Gat
     ensures usage { (result ≡ Usage) ↔ (¬ AreTurns words.now) }
     ensures turns { AreTurns words.now → TurnsLeave (S.source_view source.old) (S.source_view source.new) (K.sink_view out.old) (K.sink_view out.new) result }
     ensures complete { (bytes : List ℕ) (script : PlainScript) → AreTurns words.now → (S.source_view source.old).left ≡ Some bytes → script_in bytes ≡ Ok script → ¬ HasRisen (S.source_view source.old).faults (S.source_view source.new).faults → ¬ HasRisen (K.sink_view out.old).faults (K.sink_view out.new).faults → IsDoneOrMemory result }
+    ensures refused { (bytes : List ℕ) (fault : ScriptFault) → AreTurns words.now → (S.source_view source.old).left ≡ Some bytes → script_in bytes ≡ Err fault → ¬ HasRisen (S.source_view source.old).faults (S.source_view source.new).faults → IsRefusedOrMemory fault result }
     ensures source { (¬ AreTurns words.now) → S.source_view source.new ≡ S.source_view source.old }
     ensures out { (¬ AreTurns words.now) → K.sink_view out.new ≡ K.sink_view out.old }
     ensures err { E.sink_view err.new ≡ E.sink_view err.old }
