@@ -11,10 +11,14 @@ mod words;
 use byte_ports::{StdSink, StdSource};
 use run_engine::FreeGate;
 use status::{Status, code};
+use std::io::{BufWriter, Write};
 use std::process::ExitCode;
 use std::rt::Env;
 use std::{env, io};
 use top::fabric_main;
+
+/// How many bytes are gathered before they are written to standard output.
+const BLOCK_BYTES: usize = 65_536;
 
 /// The words after the program's name.
 fn words_of(rt: &(impl Env + AllocGlobal)) -> io::Result<Vec<String>> {
@@ -25,12 +29,23 @@ fn words_of(rt: &(impl Env + AllocGlobal)) -> io::Result<Vec<String>> {
     Ok(words)
 }
 
+/// The status once the last block is handed on: a failed write, where that fails.
+fn handed_on(status: Status, flushed: io::Result<()>) -> Status {
+    match (status, flushed) {
+        (Status::Done, Err(_)) => Status::WriteFault,
+        (status, _) => status,
+    }
+}
+
 fn main(rt: HostRuntime) -> ExitCode {
     let Ok(words) = words_of(&rt) else {
         return ExitCode::from(code(&Status::Memory));
     };
+    let Ok(mut blocks) = BufWriter::with_capacity(rt.alloc(), BLOCK_BYTES, io::writer(&rt)) else {
+        return ExitCode::from(code(&Status::Memory));
+    };
     let mut source = StdSource::start(rt.reader());
-    let mut out = StdSink::start(io::writer(&rt));
+    let mut out = StdSink::start(&mut blocks);
     let mut err = StdSink::start(io::sink());
     let status = fabric_main(
         &rt,
@@ -41,5 +56,6 @@ fn main(rt: HostRuntime) -> ExitCode {
         &mut err,
         &FreeGate,
     );
-    ExitCode::from(code(&status))
+    drop(out);
+    ExitCode::from(code(&handed_on(status, blocks.flush())))
 }
