@@ -1,13 +1,15 @@
 -- What the program leaves, by its status.
-use Rattle.std.specs.Prelude.{◌≡◌, ℕ, List, [], Some, Ok, Err}
+use Rattle.std.specs.Prelude.{◌≡◌, ◌⊎◌, ℕ, List, [], Some, Result, Ok, Err, if◌then◌else◌}
 use Rattle.byte_ports.specs.Counts.{Rose}
-use Rattle.byte_ports.specs.Sources.{SourceView, IsToldAs}
+use Rattle.byte_ports.specs.Sources.{SourceView, IsToldAs, IsLongerThan}
 use Rattle.byte_ports.specs.Sinks.{SinkView, Whole, Part}
 use Rattle.tree_revision.specs.Script.{PlainScript}
-use Rattle.script_read.specs.FirstScript.{script_in}
+use Rattle.script_read.specs.Reads.{script_in}
 use Rattle.script_read.specs.declared.script.ScriptFault.{ScriptFault}
-use Rattle.run_report.specs.Alone.{journal_of_script}
+use Rattle.script_read.specs.declared.script.ScriptFault.TheVariants.{TooLong, Unbuilt}
+use Rattle.run_report.specs.Machine.{journal_of_turns}
 use Rattle.run_report.specs.Text.{report_text}
+use Rattle.run_engine.specs.Built.{is_built}
 use Rattle.fabric_run.specs.declared.status.Status.{Status}
 use Rattle.fabric_run.specs.declared.status.Status.TheVariants.{Done, Refused, Usage, ReadFault, WriteFault, Memory}
 
@@ -15,21 +17,30 @@ use Rattle.fabric_run.specs.declared.status.Status.TheVariants.{Done, Refused, U
 abbrev pub HasRisen : ℕ → ℕ → Type 0
 HasRisen = Rose
 
+-- a script that the engine runs so far, or else that it is not built yet
+abbrev pub built_only : Result PlainScript ScriptFault → Result PlainScript ScriptFault
+built_only (Ok script) = if is_built script then Ok script else Err Unbuilt
+built_only (Err fault) = Err fault
+
+-- the script that bytes are and that is run, or else their fault
+abbrev pub script_to_run : List ℕ → Result PlainScript ScriptFault
+script_to_run bytes = built_only (script_in bytes)
+
 -- the whole report of the script that the bytes are is appended, and nothing else
 pub record IsReported (bytes : List ℕ) (old new : SinkView) : Type 0 where
   pub script : PlainScript
-  pub reads : script_in bytes ≡ Ok script
-  pub written : Whole old new (report_text (journal_of_script script))
+  pub reads : script_to_run bytes ≡ Ok script
+  pub written : Whole old new (report_text (journal_of_turns script))
 
 -- a write failed: the count of the sink rose, and the first bytes of the report are appended
 pub record IsCutOff (bytes : List ℕ) (old new : SinkView) : Type 0 where
   pub script : PlainScript
-  pub reads : script_in bytes ≡ Ok script
-  pub written : Part old new (report_text (journal_of_script script))
+  pub reads : script_to_run bytes ≡ Ok script
+  pub written : Part old new (report_text (journal_of_turns script))
 
 -- the bytes have that fault, and nothing is appended
 pub record IsRefused (bytes : List ℕ) (old new : SinkView) (fault : ScriptFault) : Type 0 where
-  pub reads : script_in bytes ≡ Err fault
+  pub reads : script_to_run bytes ≡ Err fault
   pub unchanged : new ≡ old
 
 -- what running bytes leaves on the sink
@@ -52,10 +63,16 @@ pub record ReadsAndLeaves (old new : SourceView) (out_old out_new : SinkView) (s
   pub read : WasRead old new bytes
   pub leaves : BytesLeave bytes out_old out_new status
 
--- where the source tells its bytes, they have that fault; and nothing is appended
-pub record SourceIsRefused (old new : SourceView) (out_old out_new : SinkView) (fault : ScriptFault) : Type 0 where
-  pub reads : (bytes : List ℕ) → old.left ≡ Some bytes → script_in bytes ≡ Err fault
+-- the source had more than the 4,194,304 bytes of a script, where it tells them; and nothing is appended
+pub record SourceIsTooLong (old : SourceView) (out_old out_new : SinkView) (fault : ScriptFault) : Type 0 where
+  pub fault_is : fault ≡ TooLong
+  pub long : IsLongerThan 4194304 old.left
   pub unchanged : out_new ≡ out_old
+
+-- a fault was found: the source was read to its end and its bytes have it, or it had too many
+abbrev pub SourceIsRefused : (old new : SourceView) → (out_old out_new : SinkView) → ScriptFault → Type 0
+SourceIsRefused old new out_old out_new fault =
+    ReadsAndLeaves old new out_old out_new (Refused fault) ⊎ SourceIsTooLong old out_old out_new fault
 
 -- a read failed: the count of the source rose, and nothing is appended
 pub record SourceFailed (old new : SourceView) (out_old out_new : SinkView) : Type 0 where

@@ -4,17 +4,19 @@
 mod status;
 #[cfg(test)]
 mod tests;
+mod texts;
 mod top;
 mod turns;
 mod words;
 
-use byte_ports::{StdSink, StdSource};
+use byte_ports::{Sink, StdSink, StdSource};
 use run_engine::FreeGate;
 use status::{Status, code};
 use std::io::{BufWriter, Write};
 use std::process::ExitCode;
 use std::rt::Env;
 use std::{env, io};
+use texts::told;
 use top::fabric_main;
 
 /// How many bytes are gathered before they are written to standard output.
@@ -30,9 +32,9 @@ fn words_of(rt: &(impl Env + AllocGlobal)) -> io::Result<Vec<String>> {
 }
 
 /// The status once the last block is handed on: a failed write, where that fails.
-fn handed_on(status: Status, flushed: io::Result<()>) -> Status {
+fn handed_on<E: Sink>(err: &mut E, status: Status, flushed: io::Result<()>) -> Status {
     match (status, flushed) {
-        (Status::Done, Err(_)) => Status::WriteFault,
+        (Status::Done, Err(_)) => told(err, Status::WriteFault),
         (status, _) => status,
     }
 }
@@ -46,7 +48,7 @@ fn main(rt: HostRuntime) -> ExitCode {
     };
     let mut source = StdSource::start(rt.reader());
     let mut out = StdSink::start(&mut blocks);
-    let mut err = StdSink::start(io::sink());
+    let mut err = StdSink::start(rt.stderr());
     let status = fabric_main(
         &rt,
         rt.alloc(),
@@ -57,5 +59,5 @@ fn main(rt: HostRuntime) -> ExitCode {
         &FreeGate,
     );
     drop(out);
-    ExitCode::from(code(&handed_on(status, blocks.flush())))
+    ExitCode::from(code(&handed_on(&mut err, status, blocks.flush())))
 }

@@ -6,7 +6,7 @@ ghost use Rattle.fabric_run.specs.Status.{code_of};
 use script_read::ScriptFault;
 
 /// How the program ended.
-#[derive(Clone, Copy, Debug, PartialEq, Eq)]
+#[derive(Debug, Drop)]
 pub enum Status {
     /// The whole text was written.
     Done,

@@ -2,11 +2,10 @@
 
 ghost use Rattle.std.specs.Prelude.{◌≤◌};
 
-use crate::status::{Status, code};
+use crate::status::code;
 use crate::top::fabric_main;
 use byte_ports::{MemorySink, MemorySource};
 use run_engine::FreeGate;
-use script_read::ScriptFault;
 use std::alloc::{AllocError, Global};
 use std::sync::Wait;
 use std::test::Fail;
@@ -26,7 +25,8 @@ const MOUNT_ALONE: &str =
 const MOUNT_ALONE_REPORT: &str =
     "report 1\nsurface 1\nactor js\nstep 0 on 1 empty 0\nmounts 1\nviews 1\nend\n";
 
-/// Runs the program on a source that gives at most so many bytes a call, and whose listed calls fail.
+/// Runs the program on a source that gives at most so many bytes a call, and whose listed calls fail,
+/// and answers its exit status.
 fn status_of<R: Threads + Wait + Sync + AllocGlobal>(
     rt: &R,
     word: &str,
@@ -34,7 +34,8 @@ fn status_of<R: Threads + Wait + Sync + AllocGlobal>(
     most: usize,
     fails: Vec<u64>,
     out: &mut MemorySink,
-) -> Result<Status, AllocError>
+    err: &mut MemorySink,
+) -> Result<u8, AllocError>
     requires { 1 ≤ most }
 {
     let alloc = rt.alloc();
@@ -42,8 +43,8 @@ fn status_of<R: Threads + Wait + Sync + AllocGlobal>(
     words.push(String::from_str(alloc, word)?)?;
     let bytes = Vec::from_slice(alloc, script.as_bytes())?;
     let mut source = MemorySource::start(bytes, fails).pieces(most);
-    let mut err = MemorySink::start(alloc, 0, Vec::new(alloc))?;
-    Ok(fabric_main(rt, alloc, &words, &mut source, out, &mut err, &FreeGate))
+    let status = fabric_main(rt, alloc, &words, &mut source, out, err, &FreeGate);
+    Ok(code(&status))
 }
 
 /// A sink with that room, whose listed calls fail.
@@ -58,6 +59,21 @@ fn only(alloc: Global, number: u64) -> Result<Vec<u64>, AllocError> {
     Ok(list)
 }
 
+/// A script of one step on surface 1, of 100 by 100 points.
+const UNKNOWN_WORD: &str =
+    "{\"version\":1,\"surfaces\":[{\"id\":1,\"width\":100,\"height\":100}],\"actors\":[{\"name\":\"js\",\"steps\":[{\"do\":\"paint\",\"on\":1}]}],\"turns\":[]}";
+
+/// Two actors mount one surface.
+const TWO_MOUNTERS: &str =
+    "{\"version\":1,\"surfaces\":[{\"id\":7,\"width\":1,\"height\":1}],\"actors\":[{\"name\":\"a\",\"steps\":[{\"do\":\"mount\",\"on\":7}]},{\"name\":\"b\",\"steps\":[{\"do\":\"mount\",\"on\":7}]}],\"turns\":[]}";
+
+/// A hold, which is not run so far.
+const HOLD: &str =
+    "{\"version\":1,\"surfaces\":[{\"id\":1,\"width\":100,\"height\":100}],\"actors\":[{\"name\":\"js\",\"steps\":[{\"do\":\"hold\",\"on\":1}]}],\"turns\":[]}";
+
+/// A turn of no actor.
+const BAD_TURN: &str = "{\"version\":2,\"surfaces\":[],\"actors\":[],\"turns\":[0]}";
+
 #[test]
 fn small_scripts_print_their_reports(rt: HostRuntime) -> Result<(), Fail> {
     let alloc = rt.alloc();
@@ -68,9 +84,12 @@ fn small_scripts_print_their_reports(rt: HostRuntime) -> Result<(), Fail> {
     for (script, report) in cases {
         for most in [1, 2, 997] {
             let mut out = sink(alloc, 65_536, Vec::new(alloc))?;
-            let status = status_of(&rt, "turns", script, most, Vec::new(alloc), &mut out)?;
-            assert_eq!(rt; status, Status::Done);
+            let mut err = sink(alloc, 100, Vec::new(alloc))?;
+            let none = Vec::new(alloc);
+            let status = status_of(&rt, "turns", script, most, none, &mut out, &mut err)?;
+            assert_eq!(rt; status, 0);
             assert_eq!(rt; out.bytes(), report.as_bytes());
+            assert!(rt; err.bytes().is_empty());
         }
     }
     Ok(())
@@ -82,9 +101,12 @@ fn a_failed_read_prints_nothing(rt: HostRuntime) -> Result<(), Fail> {
     let calls = EMPTY_TREE.len() as u64 / 7 + 2;
     for call in 0..calls {
         let mut out = sink(alloc, 65_536, Vec::new(alloc))?;
-        let status = status_of(&rt, "turns", EMPTY_TREE, 7, only(alloc, call)?, &mut out)?;
-        assert_eq!(rt; status, Status::ReadFault);
+        let mut err = sink(alloc, 100, Vec::new(alloc))?;
+        let fails = only(alloc, call)?;
+        let status = status_of(&rt, "turns", EMPTY_TREE, 7, fails, &mut out, &mut err)?;
+        assert_eq!(rt; status, 3);
         assert!(rt; out.bytes().is_empty());
+        assert_eq!(rt; err.bytes(), "fault: read\n".as_bytes());
     }
     Ok(())
 }
@@ -93,39 +115,63 @@ fn a_failed_read_prints_nothing(rt: HostRuntime) -> Result<(), Fail> {
 fn a_failed_write_leaves_a_prefix(rt: HostRuntime) -> Result<(), Fail> {
     let alloc = rt.alloc();
     let report = EMPTY_TREE_REPORT.as_bytes();
-    for call in 0..10 {
-        let mut out = sink(alloc, 65_536, only(alloc, call)?)?;
-        let status = status_of(&rt, "turns", EMPTY_TREE, 997, Vec::new(alloc), &mut out)?;
-        assert_eq!(rt; status, Status::WriteFault);
-        assert!(rt; report.starts_with(out.bytes()));
-    }
     for room in 0..report.len() {
         let mut out = sink(alloc, room, Vec::new(alloc))?;
-        let status = status_of(&rt, "turns", EMPTY_TREE, 997, Vec::new(alloc), &mut out)?;
-        assert_eq!(rt; code(&status), 4);
+        let mut err = sink(alloc, 100, Vec::new(alloc))?;
+        let none = Vec::new(alloc);
+        let status = status_of(&rt, "turns", EMPTY_TREE, 997, none, &mut out, &mut err)?;
+        assert_eq!(rt; status, 4);
         assert_eq!(rt; out.bytes().len(), room);
         assert!(rt; report.starts_with(out.bytes()));
+        assert_eq!(rt; err.bytes(), "fault: write\n".as_bytes());
     }
     Ok(())
 }
 
 #[test]
-fn what_is_refused_prints_nothing(rt: HostRuntime) -> Result<(), Fail> {
+fn what_is_refused_is_told(rt: HostRuntime) -> Result<(), Fail> {
     let alloc = rt.alloc();
     let cases = [
+        ("turns", "", 1, "refused: 2 NotJson\n"),
+        ("turns", "{}", 1, "refused: 3 Shape /\n"),
         (
             "turns",
-            "{\"version\":1",
-            Status::Refused(ScriptFault::NotJson),
+            UNKNOWN_WORD,
+            1,
+            "refused: 3 Shape /actors/0/steps/0/do\n",
         ),
-        ("turns", "{}", Status::Refused(ScriptFault::Unbuilt)),
-        ("run", EMPTY_TREE, Status::Usage),
+        ("turns", TWO_MOUNTERS, 1, "refused: 11 TwoMounters 7\n"),
+        ("turns", BAD_TURN, 1, "refused: 12 BadTurn 0\n"),
+        ("turns", HOLD, 1, "refused: 13 Unbuilt\n"),
+        (
+            "run",
+            EMPTY_TREE,
+            2,
+            "usage: fabric turns | run | make N | sweep N\n",
+        ),
     ];
-    for (word, script, want) in cases {
+    for (word, script, want, line) in cases {
         let mut out = sink(alloc, 65_536, Vec::new(alloc))?;
-        let status = status_of(&rt, word, script, 997, Vec::new(alloc), &mut out)?;
+        let mut err = sink(alloc, 100, Vec::new(alloc))?;
+        let none = Vec::new(alloc);
+        let status = status_of(&rt, word, script, 997, none, &mut out, &mut err)?;
         assert_eq!(rt; status, want);
         assert!(rt; out.bytes().is_empty());
+        assert_eq!(rt; err.bytes(), line.as_bytes());
+    }
+    Ok(())
+}
+
+#[test]
+fn a_failing_error_stream_changes_no_status(rt: HostRuntime) -> Result<(), Fail> {
+    let alloc = rt.alloc();
+    for room in 0..19 {
+        let mut out = sink(alloc, 65_536, Vec::new(alloc))?;
+        let mut err = sink(alloc, room, Vec::new(alloc))?;
+        let none = Vec::new(alloc);
+        let status = status_of(&rt, "turns", "", 997, none, &mut out, &mut err)?;
+        assert_eq!(rt; status, 1);
+        assert!(rt; "refused: 2 NotJson\n".as_bytes().starts_with(err.bytes()));
     }
     Ok(())
 }

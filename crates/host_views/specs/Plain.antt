@@ -1,5 +1,5 @@
 -- Host trees and mutations as plain data.
-use Rattle.std.specs.Prelude.{ℕ, List, map}
+use Rattle.std.specs.Prelude.{ℕ, List, nat_eq, filter, map}
 use Rattle.host_views.specs.declared.HostView.{HostView}
 use Rattle.host_views.specs.declared.PlacedView.{PlacedView}
 use Rattle.host_views.specs.declared.HostTree.{HostTree}
@@ -16,6 +16,14 @@ pub record PlainPlacedView : Type 0 where
 -- a host tree: its views in host preorder
 abbrev pub PlainHostTree : Type 0
 PlainHostTree = List PlainPlacedView
+
+-- the tags of a host tree
+abbrev pub host_tags : PlainHostTree → List ℕ
+host_tags tree = map (λ placed. placed.tag) tree
+
+-- the tags of a host parent's children, in their order
+abbrev pub children_at : PlainHostTree → ℕ → List ℕ
+children_at tree parent = host_tags (filter (λ placed. nat_eq placed.parent parent) tree)
 
 -- a change of the platform's views
 pub data PlainMutation : Type 0 where

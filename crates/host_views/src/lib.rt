@@ -4,8 +4,15 @@
 ghost use Rattle.std.specs.Prelude.{◌≡◌, ◌↔◌, IsTrue};
 ghost use Rattle.host_views.specs.Same.{is_same_props, is_same_view};
 
+mod linked;
+mod links;
+mod registry;
+#[cfg(test)]
+mod tests;
+
 use native_state::StateCell;
 use prop_table::{Label, NodeProps};
+pub use registry::Registry;
 use shadow_frame::Rect;
 use shadow_kinds::Kind;
 use sqlite_items::Items;
@@ -79,8 +86,9 @@ pub enum Mutation {
 
 fn needs_send<T: Send + Sync>(_value: &T) {}
 
-/// Views and mutations are shared by threads.
-pub fn is_shared_by_threads(tree: &HostTree, mutation: &Mutation) {
+/// Views, mutations and registries are shared by threads.
+pub fn is_shared_by_threads(tree: &HostTree, mutation: &Mutation, registry: &Registry) {
     needs_send(tree);
     needs_send(mutation);
+    needs_send(registry);
 }

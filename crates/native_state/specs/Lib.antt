@@ -1,2 +1,4 @@
+pub mod Families
 pub mod Made
+pub mod Pages
 pub mod State

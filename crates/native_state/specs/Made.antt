@@ -1,5 +1,5 @@
 -- Counts of what was made.
-use Rattle.std.specs.Prelude.{ℕ, ◌+◌, ◌-◌, ◌^◌, max, min}
+use Rattle.std.specs.Prelude.{◌≡◌, ◌≤◌, ℕ, ◌+◌, ◌-◌, ◌^◌, max, min}
 
 -- a count that rises by a number, and stands still at the last value that 64 bits hold
 abbrev pub raised : ℕ → ℕ → ℕ
@@ -21,3 +21,13 @@ nodes_more made by = record { nodes = raised made.nodes by; families = made.fami
 -- the counts after one more node
 abbrev pub one_node_more : MadeCounts → MadeCounts
 one_node_more made = nodes_more made 1
+
+-- the counts after that many more families in new pages
+abbrev pub families_more : MadeCounts → ℕ → MadeCounts
+families_more made by = record { nodes = made.nodes; families = raised made.families by }
+
+-- what stands whatever the answer: no node is made, and at most that many families
+pub record FamiliesWithin (before after : MadeCounts) (most : ℕ) : Type 0 where
+  pub nodes : after.nodes ≡ before.nodes
+  pub never_falls : before.families ≤ after.families
+  pub at_most : after.families ≤ before.families + most

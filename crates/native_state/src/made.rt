@@ -1,7 +1,7 @@
 //! How much was made.
 
 ghost use Rattle.std.specs.Prelude.{◌≡◌};
-ghost use Rattle.native_state.specs.Made.{raised, nothing_made, one_node_more};
+ghost use Rattle.native_state.specs.Made.{raised, nothing_made, one_node_more, families_more};
 
 use std::marker::Model;
 use std::thread::Threads;
@@ -53,5 +53,12 @@ impl Made {
         ensures { self.new ≡ one_node_more self.old }
     {
         self.nodes = self.nodes.saturating_add(1);
+    }
+
+    /// Counts the families of a new page.
+    pub(crate) fn families_made(&mut self, count: usize)
+        ensures { self.new ≡ families_more self.old count }
+    {
+        self.families = self.families.saturating_add(count as u64);
     }
 }

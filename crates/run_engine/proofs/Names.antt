@@ -12,7 +12,8 @@ use Rattle.run_engine.specs.declared.alone.Run.{Run}
 use Rattle.run_engine.specs.Run.{HasCome}
 use Rattle.run_report.specs.declared.journal.Journal.{Journal}
 use Rattle.run_report.specs.Journal.{plain_journal}
-use Rattle.run_report.specs.Alone.{Progress, begun, after_act, after_empty_mount, after_full_mount, after_steps, closed_mounts, mount_of, journal_after}
+use Rattle.run_engine.specs.Alone.{Progress, begun, after_act, after_empty_mount, after_full_mount, after_steps, closed_mounts, journal_after}
+use Rattle.run_report.specs.Mounts.{passage, mount_along}
 use Rattle.run_report.specs.Named.{AreByActors, AreMountedByActors, IsByActor, NamesActors, NamesItsActors}
 
 -- the records and the mounts so far are the one actor's
@@ -42,7 +43,7 @@ by_one-steps first call (step ∷ steps) before h =
 
 by_one-closed : (first : Size) (end : Progress) → IsByOne end → AreMountedByActors 1 (closed_mounts first end)
 by_one-closed first end h =
-    elim (nat_eq (length end.records) end.base) as (λ same. AreMountedByActors 1 (cond same end.mounts (end.mounts ++ mount_of first end.records end.base (length end.records) None ∷ []))) [
+    elim (nat_eq (length end.records) end.base) as (λ same. AreMountedByActors 1 (cond same end.mounts (end.mounts ++ mount_along first end.records (passage end.base (length end.records) None) ∷ []))) [
       | true ↦ h.mounts
       | false ↦ All-push (λ part. IsByActor 1 part.by) end.mounts _ h.mounts tt
     ]

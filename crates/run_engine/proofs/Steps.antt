@@ -12,14 +12,15 @@ use Rattle.tree_revision.specs.declared.record.Record.{Record}
 use Rattle.tree_revision.specs.declared.record.Answer.TheVariants.{Admitted}
 use Rattle.tree_revision.specs.Records.{PlainRecord, plain_op, plain_record}
 use Rattle.tree_revision.specs.Settled.{SettledRevision}
-use Rattle.tree_revision.specs.History.{StandsFor}
+use Rattle.tree_revision.specs.History.{HasContentOf}
 use Rattle.tree_revision.specs.Script.{PlainStep}
 use Rattle.script_read.specs.declared.script.Step.{Step}
 use Rattle.script_read.specs.Plain.{plain_step}
 use Rattle.run_report.specs.declared.journal.StepPart.{StepPart}
 use Rattle.run_report.specs.declared.journal.MountPart.{MountPart}
 use Rattle.run_report.specs.Journal.{plain_mount}
-use Rattle.run_report.specs.Alone.{Progress, answer_on, after_act, after_commit, after_steps, mount_of, closed_mounts}
+use Rattle.run_engine.specs.Alone.{Progress, answer_on, after_act, after_commit, after_steps, closed_mounts}
+use Rattle.run_report.specs.Mounts.{passage, mount_along}
 use Rattle.run_engine.specs.declared.alone.Run.{Run}
 use Rattle.run_engine.specs.Run.{HasCome}
 
@@ -34,7 +35,7 @@ pub come_commit : (first : Size) (old : Run) (before : Progress) (call surface n
     → shared.value ≡ op
     → answers ≡ old.answers ++ answer_on surface (Admitted number 1) ∷ []
     → number ≡ next.number → next.number ≡ old.front.number + 1
-    → ((first : Size) (entries : List PlainRecord) (entry : PlainRecord) → StandsFor first old.front entries → entry.held ≤ length entries → StandsFor first old.front (take entry.held entries) → entry.op ≡ plain_op op → StandsFor first next (entries ++ entry ∷ []))
+    → ((first : Size) (entries : List PlainRecord) (entry : PlainRecord) → HasContentOf first old.front entries → entry.held ≤ length entries → HasContentOf first old.front (take entry.held entries) → entry.op ≡ plain_op op → HasContentOf first next (entries ++ entry ∷ []))
     → HasCome first (record { front = next; base = old.base; records = records; answers = answers; mounts = old.mounts }) (after_commit call surface (plain_op op) before)
 come_commit first old before call surface number op shared records answers next come rs sh an nn nf stands =
     let entry : PlainRecord = record { actor = 0; call = call; held = before.held; op = plain_op op } in
@@ -63,7 +64,7 @@ closed_same first end base front mounts b w f e m =
 pub closed_more : (first : Size) (end : Progress) (base front : ℕ) (mounts closed : List MountPart) (part : MountPart)
     → base ≡ length (take end.base end.records) → end.base ≤ length end.records → front ≡ length end.records → base ≢ front
     → map plain_mount mounts ≡ end.mounts → closed ≡ mounts ++ part ∷ []
-    → plain_mount part ≡ mount_of first end.records end.base (length end.records) None
+    → plain_mount part ≡ mount_along first end.records (passage end.base (length end.records) None)
     → map plain_mount closed ≡ closed_mounts first end
 closed_more first end base front mounts closed part b w f e m p q =
     let other : nat_eq (length end.records) end.base ≡ false = grind (arith, nat_tests, length-take end.base end.records) in
@@ -76,7 +77,8 @@ after_steps-next first call number [] step before e = let k : number ≡ call = 
 after_steps-next first call number (u ∷ us) step before e =
     after_steps-next first (call + 1) number us step (after_act first call u.surface u.act before) (omega arith)
 
-get_or-map : {A B : Type 0} (f : A → B) (xs : List A) (i : ℕ) (d : A) → get_or (map f xs) i (f d) ≡ f (get_or xs i d)
+-- the item at an index of a mapped list
+pub get_or-map : {A B : Type 0} (f : A → B) (xs : List A) (i : ℕ) (d : A) → get_or (map f xs) i (f d) ≡ f (get_or xs i d)
 get_or-map f [] i d = refl
 get_or-map f (x ∷ xs) zero d = refl
 get_or-map f (x ∷ xs) (suc i) d = get_or-map f xs i d

@@ -1,1 +1,4 @@
+pub mod Limits
+pub mod Built
+pub mod Alone
 pub mod Run

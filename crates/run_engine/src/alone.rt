@@ -5,11 +5,12 @@ ghost use Rattle.shadow_frame.specs.declared.Size.{Size as SurfaceSize};
 ghost use Rattle.tree_settle.specs.Limits.{IsSizeInRange};
 ghost use Rattle.tree_revision.specs.FirstForm.{IsFirstAct, IsFirstOp};
 ghost use Rattle.tree_revision.specs.Records.{PlainRecord, plain_op};
-ghost use Rattle.tree_revision.specs.History.{StandsFor};
+ghost use Rattle.tree_revision.specs.History.{HasContentOf};
 ghost use Rattle.tree_revision.specs.Script.{mount};
 ghost use Rattle.script_read.specs.Plain.{plain_step, plain_act, plain_actor, plain_surface};
 ghost use Rattle.run_report.specs.Journal.{plain_journal, plain_mount};
-ghost use Rattle.run_report.specs.Alone.{Progress, begun, after_act, after_commit, after_steps, after_full_mount, after_empty_mount, journal_after, journal_alone, mount_of, closed_mounts};
+ghost use Rattle.run_engine.specs.Alone.{Progress, begun, after_act, after_commit, after_steps, after_full_mount, after_empty_mount, journal_after, journal_alone, closed_mounts};
+ghost use Rattle.run_report.specs.Mounts.{passage, mount_along};
 ghost use Rattle.run_report.specs.Named.{NamesItsActors};
 ghost use Rattle.run_engine.specs.Run.{HasCome};
 
@@ -191,7 +192,7 @@ fn mount_between(
     front: &Revision,
     by: Option<StepName>,
 ) -> Result<MountPart, AllocError>
-    ensures { IfOk result (λ part. (first : SurfaceSize) (records : List PlainRecord) (from : ℕ) → from ≤ length records → StandsFor first base.now (take from records) → StandsFor first front.now records → plain_mount part ≡ mount_of first records from (length records) by) }
+    ensures { IfOk result (λ part. (first : SurfaceSize) (records : List PlainRecord) (from : ℕ) → from ≤ length records → HasContentOf first base.now (take from records) → HasContentOf first front.now records → plain_mount part ≡ mount_along first records (passage from (length records) by)) }
 {
     Ok(MountPart {
         base: base.number(),
@@ -208,7 +209,7 @@ fn close(
     base: &Revision,
     front: &Revision,
 ) -> Result<Items<MountPart>, AllocError>
-    ensures { IfOk result (λ closed. (first : SurfaceSize) (end : Progress) → end.base ≤ length end.records → StandsFor first base.now (take end.base end.records) → StandsFor first front.now end.records → map plain_mount mounts ≡ end.mounts → map plain_mount closed ≡ closed_mounts first end) }
+    ensures { IfOk result (λ closed. (first : SurfaceSize) (end : Progress) → end.base ≤ length end.records → HasContentOf first base.now (take end.base end.records) → HasContentOf first front.now end.records → map plain_mount mounts ≡ end.mounts → map plain_mount closed ≡ closed_mounts first end) }
 {
     if base.number() != front.number() {
         mounts.push(mount_between(alloc, base, front, None)?)?;

@@ -1,5 +1,10 @@
 pub mod Journal
-pub mod Alone
+pub mod Points
+pub mod Mounts
+pub mod Legal
+pub mod Machine
 pub mod Pieces
 pub mod Named
 pub mod Text
+pub mod Ranges
+pub mod Readable

@@ -4,6 +4,8 @@
 mod answers;
 mod history;
 mod journal;
+pub mod laws;
+pub mod mounting;
 mod mounts;
 mod pieces;
 mod report;
@@ -12,4 +14,5 @@ mod tests;
 mod views;
 
 pub use journal::{ActorPart, Journal, MountPart, StepName, StepPart, SurfacePart};
+pub use pieces::{Piece, write_pieces, write_tag_line};
 pub use report::write_report;

@@ -9,7 +9,7 @@ use itoa::{Buffer, Integer};
 
 /// A part of a line.
 #[derive(Clone, Copy)]
-pub(crate) enum Piece<'a> {
+pub enum Piece<'a> {
     Text(&'a [u8]),
     /// A number in decimals.
     Number(u64),
@@ -38,7 +38,7 @@ fn write_piece<K: Sink>(sink: &mut K, piece: Piece<'_>) -> Result<(), Failed>
 
 /// Writes the pieces, one after another. After `Failed` a part of their text is written.
 #[tactic(auto, using(byte_ports::proofs::Joined::whole_none))]
-pub(crate) fn write_pieces<K: Sink>(sink: &mut K, pieces: &[Piece<'_>]) -> Result<(), Failed>
+pub fn write_pieces<K: Sink>(sink: &mut K, pieces: &[Piece<'_>]) -> Result<(), Failed>
     ensures { Writes (K.sink_view sink.old) (K.sink_view sink.new) (text_of pieces.now) result }
 {
     for piece in pieces {
@@ -67,7 +67,7 @@ pub(crate) fn write_number_line<K: Sink>(
 }
 
 /// Writes a text and a tag or an id, to the end of a line.
-pub(crate) fn write_tag_line<K: Sink>(sink: &mut K, text: &[u8], tag: u32) -> Result<(), Failed>
+pub fn write_tag_line<K: Sink>(sink: &mut K, text: &[u8], tag: u32) -> Result<(), Failed>
     ensures { Writes (K.sink_view sink.old) (K.sink_view sink.new) (number_line text.now tag) result }
 {
     write_number_line(sink, text, tag.into())

@@ -1,49 +1,64 @@
--- What entries and items are as JSON data.
-use Rattle.std.proofs.Common.{◌≡◌, ℕ, ◌+◌, List, [], ◌∷◌, length, arith, refl, ap, sym, ◌∙◌}
-use Rattle.std.specs.Prelude.{String, Some, None, is_some, map, count_by, fold, nat_eq, if◌then◌else◌, ◌≢◌, cond, Bool, false}
+-- The members of an object, counted.
+use Rattle.std.proofs.Common.{◌≡◌, ℕ, ◌+◌, List, [], ◌∷◌, length, arith, refl, ap, sym, ◌∙◌, zero-add}
+use Rattle.std.specs.Prelude.{String, Some, is_some, map, count_by, nat_eq, true, cond, codes}
 use Rattle.std.specs.Borrow.{Bor}
 use Rattle.std.specs.declared.alloc.Global.{Global}
+use Rattle.std.proofs.lemmas.List.{length-map}
+use Rattle.std.proofs.lemmas.List.Sums.{sum_by-cons}
+use Rattle.prop_table.specs.Table.{RowRule}
+use Rattle.prop_table.specs.Rules.{rule_of}
+use Rattle.prop_table.specs.declared.table.Row.{Row}
 use Rattle.serde_json.specs.Data.{Data, null, boolean, number, string, array, object}
-use Rattle.serde_json.specs.Find.{get, get_member, as_object}
-use Rattle.serde_json.specs.View.{members_view, items_view}
+use Rattle.serde_json.specs.Find.{get, as_object}
+use Rattle.serde_json.specs.View.{members_view}
 use Rattle.serde_json.specs.declared.value.Value.{Value}
-use Rattle.script_read.specs.Members.{member_count, has_only, only_item, each}
-use Rattle.script_read.specs.Grammar.{turn_of}
+use Rattle.script_read.specs.Members.{member_count, names_found, has_form}
+use Rattle.script_read.proofs.Lists.{count_mapped}
 
 -- as many members as entries
 pub entries_count : (es : List (String Global × Value)) → member_count (members_view es) ≡ length es
 entries_count [] = refl
 entries_count (e ∷ es) = omega (arith, entries_count es)
 
-fold_mapped : {A B C : Type 0} (step : C → B → C) (f : A → B) (xs : List A) (sum : C) → fold step sum (map f xs) ≡ fold (λ sum x. step sum (f x)) sum xs
-fold_mapped step f [] sum = refl
-fold_mapped step f (x ∷ xs) sum = fold_mapped step f xs (step sum (f x))
+-- an object with all of the required members has its form by its count of members
+pub form_counted : (d : Data) (es : List (String Global × Value)) (required optional : List (Bor (List ℕ))) (found n more : ℕ) → Some (members_view es) ≡ as_object d
+    → found ≡ names_found (map (λ name. name.now) required) d → nat_eq found (length required) ≡ true → n ≡ length es
+    → more ≡ names_found (map (λ name. name.now) optional) d
+    → nat_eq n (length required + more) ≡ has_form (map (λ name. name.now) required) (map (λ name. name.now) optional) d
+form_counted null es required optional found n more o f r l m = cc
+form_counted (boolean b) es required optional found n more o f r l m = cc
+form_counted (number k) es required optional found n more o f r l m = cc
+form_counted (string s) es required optional found n more o f r l m = cc
+form_counted (array ds) es required optional found n more o f r l m = cc
+form_counted (object ms) es required optional found n more o f r l m =
+    let e : members_view es ≡ ms = cc in
+    let k : n ≡ member_count ms = l ∙ sym (entries_count es) ∙ ap member_count e in
+    let h : nat_eq (names_found (map (λ (name : Bor (List ℕ)). name.now) required) (object ms)) (length (map (λ (name : Bor (List ℕ)). name.now) required)) ≡ true
+    = rw (← f, length-map required (λ (name : Bor (List ℕ)). name.now)) r in
+    rw (h, ← k, ← m, length-map required (λ (name : Bor (List ℕ)). name.now)) refl
 
--- a count under a map
-count_mapped : {A B : Type 0} (p : B → Bool) (f : A → B) (xs : List A) → count_by p (map f xs) ≡ count_by (λ x. p (f x)) xs
-count_mapped p f xs = fold_mapped (λ sum x. sum + cond (p x) 1 0) f xs 0
+-- the names that rows and "label" have, as many as are found
+names_counted : (d : Data) (rows : List Row) → names_found (codes "label" ∷ map (λ (rule : RowRule). rule.name) (map rule_of rows)) d
+    ≡ cond (is_some (get (codes "label") d)) 1 0 + count_by (λ row. is_some (get (rule_of row).name d)) rows
+names_counted d rows =
+    sum_by-cons (λ name. cond (is_some (get name d)) 1 0) (codes "label") (map (λ (rule : RowRule). rule.name) (map rule_of rows))
+    ∙ ap (λ found. cond (is_some (get (codes "label") d)) 1 0 + found)
+    (count_mapped (λ name. is_some (get name d)) (λ (rule : RowRule). rule.name) (map rule_of rows) ∙ count_mapped (λ (rule : RowRule). is_some (get rule.name d)) rule_of rows)
 
--- an object's members are counted
-pub only_named : (d : Data) (es : List (String Global × Value)) (names : List (Bor (List ℕ))) (n found : ℕ)
-    → Some (members_view es) ≡ as_object d → n ≡ length es → found ≡ count_by (λ name. is_some (get name.now d)) names
-    → nat_eq n found ≡ has_only (map (λ name. name.now) names) d
-only_named null es names n found o l c = cc
-only_named (boolean b) es names n found o l c = cc
-only_named (number m) es names n found o l c = cc
-only_named (string s) es names n found o l c = cc
-only_named (array ds) es names n found o l c = cc
-only_named (object ms) es names n found o l c =
-    let m : members_view es ≡ ms = cc in
-    let k : n ≡ member_count ms = l ∙ sym (entries_count es) ∙ ap member_count m in
-    rw (k, c, count_mapped (λ name. is_some (get_member name ms)) (λ (name : Bor (List ℕ)). name.now) names) refl
-
--- an array with another number of items than one has no only item
-pub not_one : (xs : List Value) → length xs ≢ 1 → only_item (Some (items_view xs)) ≡ None
-not_one [] h = refl
-not_one (x ∷ []) h = absurd (h refl)
-not_one (x ∷ y ∷ xs) h = refl
-
--- only an empty array has turns that are read
-pub no_turns : (xs : List Value) → each turn_of (items_view xs) ≡ (if nat_eq (length xs) 0 then Some [] else None)
-no_turns [] = refl
-no_turns (x ∷ xs) = let more : nat_eq (length (x ∷ xs)) 0 ≡ false = grind arith in rw more refl
+-- an object of props has its form by its count of members
+pub rows_counted : (d : Data) (es : List (String Global × Value)) (rows : List Row) (found n total : ℕ) → Some (members_view es) ≡ as_object d
+    → found ≡ count_by (λ row. is_some (get (rule_of row).name d)) rows → n ≡ length es → total ≡ cond (is_some (get (codes "label") d)) 1 0 + found
+    → nat_eq n total ≡ has_form [] (codes "label" ∷ map (λ (rule : RowRule). rule.name) (map rule_of rows)) d
+rows_counted null es rows found n total o f l t = cc
+rows_counted (boolean b) es rows found n total o f l t = cc
+rows_counted (number k) es rows found n total o f l t = cc
+rows_counted (string s) es rows found n total o f l t = cc
+rows_counted (array ds) es rows found n total o f l t = cc
+rows_counted (object ms) es rows found n total o f l t =
+    let e : members_view es ≡ ms = cc in
+    let k : n ≡ member_count ms = l ∙ sym (entries_count es) ∙ ap member_count e in
+    let h : total ≡ 0 + names_found (codes "label" ∷ map (λ (rule : RowRule). rule.name) (map rule_of rows)) (object ms)
+    = t ∙ ap (λ more. cond (is_some (get (codes "label") (object ms))) 1 0 + more) f ∙ sym (names_counted (object ms) rows)
+    ∙ sym (zero-add (names_found (codes "label" ∷ map (λ (rule : RowRule). rule.name) (map rule_of rows)) (object ms)))
+    in
+    rw (k, h) refl

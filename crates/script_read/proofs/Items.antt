@@ -1,65 +1,57 @@
--- The items of an array, read one after another.
-use Rattle.std.proofs.Common.{◌≡◌, ℕ, ◌+◌, ◌<◌, ◌≤◌, List, [], ◌∷◌, ◌++◌, length, get_or, drop, drop-cons, add-one, arith, refl, ap, sym, ◌∙◌, append_assoc}
+-- The items of an array, and where the first of them is refused.
+use Rattle.std.proofs.Common.{◌≡◌, ℕ, ◌+◌, ◌<◌, ◌≤◌, List, [], ◌∷◌, ◌++◌, length, get_or, take, drop, arith, refl, ap, sym, ◌∙◌}
 use Rattle.std.proofs.Math.ListN.{drop_of_length-le}
+use Rattle.std.proofs.lemmas.List.{take_more, map-append, length-map}
+use Rattle.std.proofs.Common.{length-take}
 use Rattle.std.specs.Prelude.{Option, Some, None, map}
-use Rattle.serde_json.specs.Data.{Data, null, boolean, number, string, array, object, item, depth, items_depth}
+use Rattle.serde_json.specs.Data.{Data, null, boolean, number, string, array, object}
 use Rattle.serde_json.specs.Find.{as_array}
 use Rattle.serde_json.specs.View.{view, items_view}
 use Rattle.serde_json.specs.declared.value.Value.{Value}
-use Rattle.script_read.specs.Members.{joined, each}
-use Rattle.std.proofs.lemmas.List.{map-append, append-nil}
+use Rattle.script_read.specs.Members.{listed, items_in}
+use Rattle.script_read.specs.Places.{Pointer, first_of, at_item, first_after}
+use Rattle.script_read.proofs.Lists.{first_two, left_of}
 
--- what was read, in front of the rest
-abbrev pub after : {A : Type 0} → List A → Option (List A) → Option (List A)
-after done None = None
-after done (Some rest) = Some (done ++ rest)
+-- the items of an array as a list
+pub listed_view : (xs : List Value) → listed (items_view xs) ≡ map view xs
+listed_view [] = refl
+listed_view (x ∷ xs) = ap (λ rest. view x ∷ rest) (listed_view xs)
 
--- in front of nothing
-pub after_none : {A : Type 0} (rest : Option (List A)) → after [] rest ≡ rest
-after_none None = refl
-after_none (Some rest) = refl
+-- what an array lists
+pub array_items : (d : Data) (xs : List Value) → Some (items_view xs) ≡ as_array d → map view xs ≡ items_in d
+array_items (array ds) xs h = let e : items_view xs ≡ ds = cc in rw (← e, listed_view xs) refl
+array_items null xs h = cc
+array_items (boolean b) xs h = cc
+array_items (number n) xs h = cc
+array_items (string s) xs h = cc
+array_items (object ms) xs h = cc
 
-after_one : {A : Type 0} (done : List A) (next : A) (rest : Option (List A)) → after done (joined (Some next) rest) ≡ after (done ++ next ∷ []) rest
-after_one done next None = refl
-after_one done next (Some rest) = ap Some (sym (append_assoc done (next ∷ []) rest))
+-- the search from the item at hand on
+pub after_step : (refuse : List Data → Data → Option Pointer) (xs : List Value) (i : ℕ) (d : Value) → i < length xs → d ≡ get_or xs i d
+    → first_after refuse (map view (take i xs)) (map view (drop i xs))
+    ≡ first_of (at_item i (refuse (map view (take i xs)) (view d)) ∷ first_after refuse (map view (take (i + 1) xs)) (map view (drop (i + 1) xs)) ∷ [])
+after_step refuse xs i d h e =
+    let n : length (map view (take i xs)) ≡ i = simp (length-map, length-take) (omega arith) in
+    let t : map view (take (i + 1) xs) ≡ map view (take i xs) ++ view d ∷ [] = rw (take_more xs i d h, ← e) (map-append view (take i xs) (d ∷ [])) in
+    rw (left_of xs i d h e, t)
+    (ap (λ index. first_of (at_item index (refuse (map view (take i xs)) (view d))
+    ∷ first_after refuse (map view (take i xs) ++ view d ∷ []) (map view (drop (i + 1) xs)) ∷ [])) n)
 
--- what is left of an array
-pub left_of : (xs : List Value) (i : ℕ) (d : Value) → i < length xs → d ≡ get_or xs i d
-    → items_view (drop i xs) ≡ item (view d) (items_view (drop (i + 1) xs))
-left_of xs i d h e =
-    let f : drop i xs ≡ d ∷ drop (i + 1) xs = rw (drop-cons xs i d h, ← e, add-one) refl in ap items_view f
+-- the item at hand is not refused
+pub after_more : (refuse : List Data → Data → Option Pointer) (xs : List Value) (i : ℕ) (d : Value) (place : Option Pointer) → i < length xs → d ≡ get_or xs i d
+    → place ≡ at_item i (refuse (map view (take i xs)) (view d)) → place ≡ None
+    → first_after refuse (map view (take i xs)) (map view (drop i xs)) ≡ first_after refuse (map view (take (i + 1) xs)) (map view (drop (i + 1) xs))
+after_more refuse xs i d place h e p n =
+    after_step refuse xs i d h e
+    ∙ first_two (at_item i (refuse (map view (take i xs)) (view d))) (first_after refuse (map view (take (i + 1) xs)) (map view (drop (i + 1) xs))) (sym p ∙ n)
 
--- one more item was read
-pub each_more : {A B : Type 0} (read : Data → Option B) (plain : A → B) (done : List A) (next : A) (xs : List Value) (i : ℕ) (d : Value) (whole : Option (List B))
-    → i < length xs → d ≡ get_or xs i d → whole ≡ after (map plain done) (each read (items_view (drop i xs))) → read (view d) ≡ Some (plain next)
-    → whole ≡ after (map plain (done ++ next ∷ [])) (each read (items_view (drop (i + 1) xs)))
-each_more read plain done next xs i d whole h e w r =
-    w ∙ (rw (left_of xs i d h e, r, map-append plain done (next ∷ [])) (after_one (map plain done) (plain next) (each read (items_view (drop (i + 1) xs)))))
+-- the item at hand is refused
+pub after_found : (refuse : List Data → Data → Option Pointer) (xs : List Value) (i : ℕ) (d : Value) (place : Option Pointer) (pointer : Pointer)
+    → i < length xs → d ≡ get_or xs i d → place ≡ at_item i (refuse (map view (take i xs)) (view d)) → place ≡ Some pointer
+    → first_after refuse (map view (take i xs)) (map view (drop i xs)) ≡ Some pointer
+after_found refuse xs i d place pointer h e p s = after_step refuse xs i d h e ∙ (rw (← p, s) refl)
 
--- an item was not read
-pub each_stop : {A B : Type 0} (read : Data → Option B) (plain : A → B) (done : List A) (xs : List Value) (i : ℕ) (d : Value) (whole : Option (List B))
-    → i < length xs → d ≡ get_or xs i d → whole ≡ after (map plain done) (each read (items_view (drop i xs))) → read (view d) ≡ None → whole ≡ None
-each_stop read plain done xs i d whole h e w r = w ∙ (rw (left_of xs i d h e, r) refl)
-
--- all were read
-pub each_end : {A B : Type 0} (read : Data → Option B) (plain : A → B) (done : List A) (xs : List Value) (i : ℕ) (whole : Option (List B))
-    → length xs ≤ i → whole ≡ after (map plain done) (each read (items_view (drop i xs))) → whole ≡ Some (map plain done)
-each_end read plain done xs i whole h w = w ∙ (rw (drop_of_length-le xs h, append-nil (map plain done)) refl)
-
--- the items that are left lie less deep than the array
-pub array_deep : (d : Data) (xs : List Value) → Some (items_view xs) ≡ as_array d → items_depth (items_view xs) < depth d
-array_deep (array ds) xs h = let e : items_view xs ≡ ds = cc in rw e (omega arith)
-array_deep null xs h = cc
-array_deep (boolean b) xs h = cc
-array_deep (number n) xs h = cc
-array_deep (string s) xs h = cc
-array_deep (object ms) xs h = cc
-
--- what is left lies no deeper
-pub deep_left : (xs : List Value) (i : ℕ) (d : Value) → i < length xs → d ≡ get_or xs i d
-    → items_depth (items_view (drop (i + 1) xs)) ≤ items_depth (items_view (drop i xs))
-deep_left xs i d h e = rw (left_of xs i d h e) (omega arith)
-
--- an item lies no deeper than what is left
-pub item_deep : (xs : List Value) (i : ℕ) (d : Value) → i < length xs → d ≡ get_or xs i d → depth (view d) ≤ items_depth (items_view (drop i xs))
-item_deep xs i d h e = rw (left_of xs i d h e) (omega arith)
+-- no item was refused
+pub after_end : (refuse : List Data → Data → Option Pointer) (xs : List Value) (i : ℕ) → length xs ≤ i
+    → first_after refuse (map view (take i xs)) (map view (drop i xs)) ≡ None
+after_end refuse xs i h = rw (drop_of_length-le xs h) refl

@@ -1,60 +1,56 @@
--- What is read, by its parts, and the ranges of numbers.
-use Rattle.std.proofs.Common.{◌≡◌, ℕ, ◌≤◌, List, refl}
-use Rattle.std.specs.Prelude.{◌≤ℤ◌, ℤ, pos, negsuc, nat_abs, int_le, Bool, true, false, ◌&&◌, cond, Option, Some, None, option_map, option_and_then}
+-- The ranges of numbers that are not refused.
+use Rattle.std.proofs.Common.{◌≡◌, ℕ, ◌<◌, ◌≤◌, ◌^◌, refl, arith, ap}
+use Rattle.std.specs.Prelude.{ℤ, pos, negsuc, nat_abs, ◌≤ℤ◌, int_le, nat_lt, Bool, true, false, cond}
 use Rattle.std.specs.Int.Signed.{le_z_yes}
-use Rattle.std.proofs.lemmas.Option.{option_and_then_some, cond_some, none-some, same_Some}
+use Rattle.std.specs.Ordering.{int_eq}
+use Rattle.std.proofs.lemmas.Bool.Decides.{Decides-int_eq}
 use lib.Dec.{T, leb→le}
-use Rattle.serde_json.specs.Data.{Data}
-use Rattle.serde_json.specs.Find.{get}
-use Rattle.script_read.specs.Members.{required, integer_of, in_range, integer_within, natural_within}
-
--- both of two tests hold
-pub both : (a b : Bool) → (a && b) ≡ true → (a ≡ true) × (b ≡ true)
-both true true h = (refl, refl)
-both true false h = cc
-both false b h = cc
-
--- a test that guards a value holds
-pub guarded : {A : Type 0} (test : Bool) (read : Option A) (value : A) → cond test read None ≡ Some value → (test ≡ true) × (read ≡ Some value)
-guarded true read value h = (refl, h)
-guarded false read value h = absurd (none-some value h)
-
--- what was mapped is there
-pub mapped : {A B P : Type 0} (f : A → B) (read : Option A) (value : B) → option_map f read ≡ Some value → ((x : A) → read ≡ Some x → f x ≡ value → P) → P
-mapped f None value h k = absurd (none-some value h)
-mapped f (Some x) value h k = k x refl (same_Some (f x) value h)
+use Rattle.script_read.specs.Members.{natural_of}
+use Rattle.script_read.specs.Faults.{is_from}
+use Rattle.script_read.proofs.Refusals.{both}
 
 holds : (test : Bool) → test ≡ true → T test
 holds true h = tt
 holds false h = cc
 
-at_most : (a b : ℤ) → int_le a b ≡ true → a ≤ℤ b
+-- a test of order
+pub at_most : (a b : ℤ) → int_le a b ≡ true → a ≤ℤ b
 at_most a b h = le_z_yes (holds (int_le a b) h)
 
-in_range_ok : (low high : ℤ) (read : Option ℤ) (z : ℤ) → option_and_then (in_range low high) read ≡ Some z → (low ≤ℤ z) × (z ≤ℤ high)
-in_range_ok low high None z h = absurd (none-some z h)
-in_range_ok low high (Some n) z h =
-    let p = cond_some (int_le low n && int_le n high) n z h in
-    let q = both (int_le low n) (int_le n high) p.0 in
-    rw (← p.1) (at_most low n q.0, at_most n high q.1)
+-- a number in a range
+pub from_range : (low high z : ℤ) → is_from low high z ≡ true → (low ≤ℤ z) × (z ≤ℤ high)
+from_range low high z h = let b = both (int_le low z) (int_le z high) h in (at_most low z b.0, at_most z high b.1)
 
--- an integer that is read is in its range
-pub integer_ok : (low high : ℤ) (d : Data) (z : ℤ) → integer_within low high d ≡ Some z → (low ≤ℤ z) × (z ≤ℤ high)
-integer_ok low high d z h = in_range_ok low high (integer_of d) z h
+small : (n : ℕ) → n < 2 ^ 32 → natural_of (pos n) ≡ n
+small n h = let t : nat_lt n (2 ^ 32) ≡ true = grind (arith, h) in rw t refl
 
-abs_range : (low high : ℕ) (z : ℤ) → pos low ≤ℤ z → z ≤ℤ pos high → (low ≤ nat_abs z) × (nat_abs z ≤ high)
-abs_range low high (pos n) a b = (leb→le low n a.le, leb→le n high b.le)
-abs_range low high (negsuc n) a b = absurd a.le
+by_order : (low high : ℕ) (z : ℤ) → high < 2 ^ 32 → pos low ≤ℤ z → z ≤ℤ pos high → (low ≤ natural_of z) × (natural_of z ≤ high) × (pos (natural_of z) ≡ z)
+by_order low high (pos n) h a b =
+    let l : low ≤ n = leb→le low n a.le in
+    let m : n ≤ high = leb→le n high b.le in
+    let s : natural_of (pos n) ≡ n = small n (omega arith) in
+    rw s (l, m, refl)
+by_order low high (negsuc n) h a b = absurd a.le
 
-natural_ok : (low high : ℕ) (d : Data) (n : ℕ) → natural_within low high d ≡ Some n → (low ≤ n) × (n ≤ high)
-natural_ok low high d n h =
-    mapped nat_abs (integer_within (pos low) (pos high) d) n h
-    (λ z i e. let r = integer_ok (pos low) (pos high) d z i in rw (← e) (abs_range low high z r.0 r.1))
+-- a natural number in a range below 2^32
+pub natural_range : (low high : ℕ) (z : ℤ) → high < 2 ^ 32 → is_from (pos low) (pos high) z ≡ true
+    → (low ≤ natural_of z) × (natural_of z ≤ high) × (pos (natural_of z) ≡ z)
+natural_range low high z h f = let r = from_range (pos low) (pos high) z f in by_order low high z h r.0 r.1
 
--- the same of a member's integer
-pub integer_at_ok : (name : List ℕ) (low high : ℤ) (d : Data) (z : ℤ) → required name (integer_within low high) d ≡ Some z → (low ≤ℤ z) × (z ≤ℤ high)
-integer_at_ok name low high d z h = option_and_then_some (integer_within low high) (get name d) z h (λ x g e. integer_ok low high x z e)
+-- a number below 2^32 is at most its amount
+pub natural_small : (z : ℤ) → natural_of z ≤ nat_abs z
+natural_small (pos n) = elim (nat_lt n (2 ^ 32)) as (λ b. cond b n 0 ≤ n) [ true ↦ omega arith | false ↦ omega arith ]
+natural_small (negsuc n) = omega arith
 
--- a member's natural number is in its range
-pub natural_at_ok : (name : List ℕ) (low high : ℕ) (d : Data) (n : ℕ) → required name (natural_within low high) d ≡ Some n → (low ≤ n) × (n ≤ high)
-natural_at_ok name low high d n h = option_and_then_some (natural_within low high) (get name d) n h (λ x g e. natural_ok low high x n e)
+-- equal integers
+pub same_integer : (a b : ℤ) → int_eq a b ≡ true → a ≡ b
+same_integer a b h = (Decides-int_eq a b).0 h
+
+-- a number that is not 0 is its integer
+pub natural_is : (z : ℤ) (n : ℕ) → 1 ≤ n → natural_of z ≡ n → z ≡ pos n
+natural_is (pos m) n h e = elim (nat_lt m (2 ^ 32)) as (λ b. cond b m 0 ≡ n → pos m ≡ pos n) [ true ↦ λ p. ap pos p | false ↦ λ p. absurd (omega arith) ] e
+natural_is (negsuc m) n h e = absurd (omega arith)
+
+-- equal integers are equal numbers
+pub equal_integers : (a b : ℤ) → a ≡ b → int_eq a b ≡ true
+equal_integers a b h = (Decides-int_eq a b).1 h

@@ -1,7 +1,12 @@
 pub mod Plain
-pub mod Reads
 pub mod Members
-pub mod Nodes
-pub mod Grammar
-pub mod Limits
-pub mod FirstScript
+pub mod Places
+pub mod Words
+pub mod Shape
+pub mod Faults
+pub mod Checks
+pub mod Value
+pub mod Reads
+pub mod Making
+pub mod Writing
+pub mod Writable

@@ -1,68 +1,73 @@
--- What the grammar of scripts asks of a JSON value.
-use Rattle.std.specs.Prelude.{ℕ, ◌+◌, ℤ, pos, nat_abs, List, [], ◌∷◌, count_by, Bool, false, ◌&&◌, nat_eq, int_le, bytes_eq, if◌then◌else◌, Option, Some, None, is_some, option_map, option_and_then}
-use Rattle.serde_json.specs.Data.{Data, Items, no_items, item, Members, no_members, member}
-use Rattle.serde_json.specs.Find.{get, get_member, as_number, as_i64, as_array, as_object}
+-- What a JSON value has under a name. Where it has nothing of the form that is asked for, which is a fault of its own, 0 or something empty stands.
+use Rattle.std.specs.Prelude.{ℕ, ◌+◌, ◌^◌, ℤ, pos, negsuc, List, [], ◌∷◌, length, count_by, slice_index_or, Bool, ◌&&◌, nat_eq, nat_lt, if◌then◌else◌, Option, is_some, option_map, option_and_then, unwrap_or}
+use Rattle.serde_json.specs.Data.{Data, null, Items, no_items, item, Members, no_members, member}
+use Rattle.serde_json.specs.Find.{get, as_number, as_i64, as_str, as_array, as_object}
+
+-- items as a list
+abbrev pub listed : Items → List Data
+listed no_items = []
+listed (item value values) = value ∷ listed values
 
 -- how many members there are
 abbrev pub member_count : Members → ℕ
 member_count no_members = 0
-member_count (member name value members) = member_count members + 1
+member_count (member name value others) = member_count others + 1
 
--- there are members of those names alone: as many as are found under the names
-abbrev pub are_named : List (List ℕ) → Option Members → Bool
-are_named names None = false
-are_named names (Some members) = nat_eq (member_count members) (count_by (λ name. is_some (get_member name members)) names)
+-- how many of some names are those of members
+abbrev pub names_found : List (List ℕ) → Data → ℕ
+names_found names value = count_by (λ name. is_some (get name value)) names
 
--- a value is an object whose members have those names alone
-abbrev pub has_only : List (List ℕ) → Data → Bool
-has_only names value = are_named names (as_object value)
-
--- what a member that has to be there is read as
-abbrev pub required : {A : Type 0} → List ℕ → (Data → Option A) → Data → Option A
-required name read value = option_and_then read (get name value)
+-- a value is an object that has all of some members, and beside them only such as may be missing
+abbrev pub has_form : List (List ℕ) → List (List ℕ) → Data → Bool
+has_form required optional value =
+    is_some (as_object value) && nat_eq (names_found required value) (length required)
+    && nat_eq (unwrap_or (option_map member_count (as_object value)) 0) (length required + names_found optional value)
 
 -- the integer that a value is
 abbrev pub integer_of : Data → Option ℤ
 integer_of value = option_and_then as_i64 (as_number value)
 
--- an integer from low to high
-abbrev pub in_range : ℤ → ℤ → ℤ → Option ℤ
-in_range low high number = if int_le low number && int_le number high then Some number else None
+-- the integer of a value
+abbrev pub integer_in : Data → ℤ
+integer_in value = unwrap_or (integer_of value) (pos 0)
 
--- the integer that a value is, from low to high
-abbrev pub integer_within : ℤ → ℤ → Data → Option ℤ
-integer_within low high value = option_and_then (in_range low high) (integer_of value)
+-- a number below 2^32; any other is as 0
+abbrev pub natural_of : ℤ → ℕ
+natural_of (pos n) = if nat_lt n (2 ^ 32) then n else 0
+natural_of (negsuc n) = 0
 
--- the same where it is not negative
-abbrev pub natural_within : ℕ → ℕ → Data → Option ℕ
-natural_within low high value = option_map nat_abs (integer_within (pos low) (pos high) value)
+-- the number below 2^32 of a value
+abbrev pub natural_in : Data → ℕ
+natural_in value = natural_of (integer_in value)
 
--- a value is that text
-abbrev pub is_text : List ℕ → Option (List ℕ) → Bool
-is_text text None = false
-is_text text (Some found) = bytes_eq found text
+-- the text of a value
+abbrev pub text_in : Data → List ℕ
+text_in value = unwrap_or (as_str value) []
 
--- an item in front of others, where all of them are read
-abbrev pub joined : {A : Type 0} → Option A → Option (List A) → Option (List A)
-joined None others = None
-joined (Some first) others = option_map (λ rest. first ∷ rest) others
+-- the items of a value
+abbrev pub items_in : Data → List Data
+items_in value = unwrap_or (option_map listed (as_array value)) []
 
--- what each item is read as
-abbrev pub each : {A : Type 0} → (Data → Option A) → Items → Option (List A)
-each read no_items = Some []
-each read (item value values) = joined (read value) (each read values)
+-- the value of a member
+abbrev pub value_at : List ℕ → Data → Data
+value_at name value = unwrap_or (get name value) null
 
--- the array of a value, each item read
-abbrev pub array_of : {A : Type 0} → (Data → Option A) → Data → Option (List A)
-array_of read value = option_and_then (each read) (as_array value)
+-- the integer of a member
+abbrev pub integer_at : List ℕ → Data → ℤ
+integer_at name value = integer_in (value_at name value)
 
--- the one item of an array
-abbrev pub only_item : Option Items → Option Data
-only_item None = None
-only_item (Some no_items) = None
-only_item (Some (item value no_items)) = Some value
-only_item (Some (item value (item next values))) = None
+-- the number below 2^32 of a member
+abbrev pub natural_at : List ℕ → Data → ℕ
+natural_at name value = natural_in (value_at name value)
 
--- what the one item of an array is read as
-abbrev pub one_of : {A : Type 0} → (Data → Option A) → Data → Option A
-one_of read value = option_and_then read (only_item (as_array value))
+-- the text of a member
+abbrev pub text_at : List ℕ → Data → List ℕ
+text_at name value = text_in (value_at name value)
+
+-- the items of a member
+abbrev pub items_at : List ℕ → Data → List Data
+items_at name value = items_in (value_at name value)
+
+-- the item of that number
+abbrev pub item_in : ℕ → Data → Data
+item_in index value = slice_index_or (items_in value) index null

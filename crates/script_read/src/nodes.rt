@@ -1,115 +1,128 @@
-//! Trees from JSON: written views.
+//! Trees from JSON.
 
-ghost use Rattle.std.specs.Prelude.{◌≡◌, ◌<◌, ℕ, option_map};
+ghost use Rattle.std.specs.Prelude.{◌≡◌, IfOk, option_map};
 ghost use Rattle.serde_json.specs.View.{view};
-ghost use Rattle.tree_build.specs.Script.{in_front, script_forest};
-ghost use Rattle.script_read.specs.Reads.{Reads, in_form};
-ghost use Rattle.script_read.specs.Nodes.{rule_of_row, with_member as with_member_of, props_of, props_at, fields_of, node_of, nodes_of, view_fields};
+ghost use Rattle.std.specs.Prelude.{codes};
+ghost use Rattle.script_read.specs.Members.{natural_at as natural_at_of};
+ghost use Rattle.tree_build.specs.Script.{ScriptForest, written, in_front, script_forest};
+ghost use Rattle.script_read.specs.Value.{kind_at as kind_at_of, change_of, fields_of, kept_before, node_before, nodes_of, children_of};
 
-use crate::members::{has_only, is_text, natural_at, text_at};
-use crate::script::{ScriptRefusal, UNBUILT};
-use prop_table::rows::{BACKGROUND, HEIGHT, LEFT, TOP, WIDTH};
-use prop_table::{Label, NodeProps, node_table};
+use crate::members::{items_in, natural_at, text_at, value_at};
+use crate::props::{named_label, read_edit, read_props};
+use prop_table::Label;
 use serde_json::Value;
-use shadow_kinds::Kind;
+use shadow_kinds::{Kind, from_word};
+use shadow_node::NodeEdit;
 use sqlite_items::Items;
-use std::alloc::Global;
+use std::alloc::{AllocError, Global};
 use tree_build::ScriptNode;
 
-/// Props with what an object says of the row of that name.
-fn with_member(value: &Value, row: usize, name: &str, props: NodeProps) -> Option<NodeProps>
-    requires row { row < 22 }
-    requires name { name.now ≡ (rule_of_row row).name }
-    ensures { result ≡ with_member_of (view value.now) row props }
+/// The kind of a written node.
+fn kind_at(node: &Value) -> Kind
+    ensures { result ≡ kind_at_of (view node.now) }
 {
-    match value.get(name) {
-        Some(found) => {
-            let number = found.as_i64()?;
-            node_table().set(&props, row, Some(number)).ok()
-        }
-        None => Some(props),
+    from_word(text_at(node, "kind").as_bytes()).unwrap_or(Kind::View)
+}
+
+/// The change of a kept node, where it is given props.
+fn read_change(alloc: Global, two: bool, node: &Value) -> Result<Option<NodeEdit>, AllocError>
+    ensures { IfOk result (λ change. change ≡ change_of two (view node.now)) }
+{
+    match node.get("props") {
+        Some(props) => Ok(Some(read_edit(alloc, two, props)?)),
+        None => Ok(None),
     }
 }
 
-/// The props that an object names.
-fn read_props(value: &Value) -> Option<NodeProps>
-    ensures { result ≡ props_of (view value.now) }
+/// A written node with those children.
+#[tactic(auto, using(crate::proofs::Forests::front_written))]
+fn read_written(
+    alloc: Global,
+    two: bool,
+    node: &Value,
+    children: Items<ScriptNode>,
+) -> Result<ScriptNode, AllocError>
+    ensures { IfOk result (λ made. (rest : ScriptForest) → in_front made rest ≡ written (fields_of two (view node.now)) (script_forest children) rest) }
 {
-    if !has_only(value, &["left", "top", "width", "height", "background"]) {
-        return None;
-    }
-    let props = with_member(value, LEFT, "left", node_table().start())?;
-    let props = with_member(value, TOP, "top", props)?;
-    let props = with_member(value, WIDTH, "width", props)?;
-    let props = with_member(value, HEIGHT, "height", props)?;
-    with_member(value, BACKGROUND, "background", props)
-}
-
-/// The props of a node; without an object of its own each row is at its start.
-fn read_props_at(value: Option<&Value>) -> Option<NodeProps>
-    ensures { result ≡ props_at (option_map (λ found. view found.now) value.entry) }
-{
-    match value {
-        Some(value) => read_props(value),
-        None => Some(node_table().start()),
-    }
-}
-
-/// What a view says of itself, its children aside.
-#[derive(Clone, Copy)]
-struct ViewParts {
-    tag: u32,
-    props: NodeProps,
-}
-
-fn read_parts(value: &Value) -> Option<ViewParts>
-    ensures { option_map (λ parts. view_fields parts.tag parts.props) result ≡ fields_of (view value.now) }
-{
-    if !has_only(value, &["tag", "kind", "props", "children"]) {
-        return None;
-    }
-    if !is_text(text_at(value, "kind"), "view") {
-        return None;
-    }
-    let tag = natural_at(value, "tag", 1, 2_147_483_647)?;
-    let props = read_props_at(value.get("props"))?;
-    Some(ViewParts { tag, props })
-}
-
-/// One node with the nodes below it.
-#[cycle(nodes)]
-#[tactic(auto, using(crate::proofs::Views::below, crate::proofs::Views::no_node, crate::proofs::Views::no_nodes))]
-fn read_node(alloc: Global, value: &Value) -> Result<ScriptNode, ScriptRefusal>
-    ensures { Reads in_front (in_form (node_of (view value.now))) result }
-{
-    let Some(parts) = read_parts(value) else {
-        return Err(UNBUILT);
-    };
-    let children = match value.get("children") {
-        Some(list) => read_nodes(alloc, list)?,
-        None => Items::new(alloc),
+    let none = Value::Null;
+    let props = value_at(node, "props", &none);
+    let label = match named_label(alloc, props)? {
+        Some(label) => label,
+        None => Label::none(),
     };
     Ok(ScriptNode::Written {
-        tag: parts.tag,
-        kind: Kind::View,
-        props: parts.props,
-        label: Label::none(),
+        tag: natural_at(node, "tag"),
+        kind: kind_at(node),
+        props: read_props(two, props),
+        label,
         children,
     })
 }
 
-/// The nodes of an array, each with the nodes below it.
-#[cycle(nodes)]
-pub(crate) fn read_nodes(alloc: Global, value: &Value) -> Result<Items<ScriptNode>, ScriptRefusal>
-    ensures { Reads script_forest (in_form (nodes_of (view value.now))) result }
+/// A kept node, with children of its own where it is given some.
+#[tactic(auto, using(crate::proofs::Forests::front_kept))]
+fn read_kept(
+    alloc: Global,
+    two: bool,
+    node: &Value,
+    children: Option<Items<ScriptNode>>,
+) -> Result<ScriptNode, AllocError>
+    ensures { IfOk result (λ made. (rest : ScriptForest) → in_front made rest ≡ kept_before (natural_at_of (codes "keep") (view node.now)) (change_of two (view node.now)) (option_map script_forest children) rest) }
 {
-    let Some(list) = value.as_array() else {
-        return Err(UNBUILT);
+    let change = read_change(alloc, two, node)?;
+    Ok(ScriptNode::Kept {
+        tag: natural_at(node, "keep"),
+        change,
+        children,
+    })
+}
+
+/// The children of a node, where it is given some.
+#[cycle(nodes)]
+#[tactic(auto, using(crate::proofs::Forests::children_are, crate::proofs::Trees::below))]
+fn read_children(
+    alloc: Global,
+    two: bool,
+    node: &Value,
+) -> Result<Option<Items<ScriptNode>>, AllocError>
+    ensures { IfOk result (λ children. option_map script_forest children ≡ children_of two (view node.now)) }
+{
+    match node.get("children") {
+        Some(list) => Ok(Some(read_nodes(alloc, two, list)?)),
+        None => Ok(None),
+    }
+}
+
+/// A node with the nodes below it.
+#[cycle(nodes)]
+fn read_node(alloc: Global, two: bool, node: &Value) -> Result<ScriptNode, AllocError>
+    ensures { IfOk result (λ made. (rest : ScriptForest) → in_front made rest ≡ node_before two (view node.now) (children_of two (view node.now)) rest) }
+{
+    let children = read_children(alloc, two, node)?;
+    if node.get("tag").is_none() {
+        return read_kept(alloc, two, node, children);
+    }
+    let children = match children {
+        Some(children) => children,
+        None => Items::new(alloc),
     };
+    read_written(alloc, two, node, children)
+}
+
+/// The nodes of a tree.
+#[cycle(nodes)]
+#[tactic(auto, using(crate::proofs::Forests::nodes_are, crate::proofs::Forests::nodes_more, crate::proofs::Forests::nodes_end, crate::proofs::Trees::item_below))]
+pub(crate) fn read_nodes(
+    alloc: Global,
+    two: bool,
+    tree: &Value,
+) -> Result<Items<ScriptNode>, AllocError>
+    ensures { IfOk result (λ nodes. script_forest nodes ≡ nodes_of two (view tree.now)) }
+{
+    let list = items_in(tree);
     let mut nodes = Items::new(alloc);
-    for item in list {
-        let node = read_node(alloc, item)?;
-        nodes.push(node)?;
+    for node in list {
+        nodes.push(read_node(alloc, two, node)?)?;
     }
     Ok(nodes)
 }

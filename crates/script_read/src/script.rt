@@ -51,27 +51,78 @@ pub enum Act {
     Mount,
 }
 
-/// Why bytes are no script that is run; the first that applies is answered.
-#[derive(Clone, Copy, Debug, PartialEq, Eq)]
+/// A place in a script's text, as a JSON pointer; the place of the whole script is `/`.
+#[derive(Debug, Drop)]
+pub struct Place {
+    pub text: Items<u8>,
+}
+
+impl PartialEq for Place {
+    ghost use Rattle.std.specs.Prelude.{nat_eq};
+    ghost use Rattle.std.specs.Ordering.{on};
+    ghost use Rattle.std.specs.Cmp.Lexicographic.{pointwise};
+    ghost use Rattle.std.specs.Cmp.Rules.{comparing};
+    ghost use Rattle.std.proofs.Common.{rules};
+
+    ghost eq = { on (λ place. place.text) (pointwise nat_eq) };
+
+    ghost laws = { Prim.search (comparing, rules) };
+
+    fn eq(&self, other: &Place) -> bool {
+        self.text.as_slice() == other.text.as_slice()
+    }
+}
+
+impl Eq for Place {
+    ghost use Rattle.std.specs.Cmp.Rules.{comparing};
+    ghost use Rattle.std.proofs.Common.{rules};
+
+    ghost laws = { Prim.search (comparing, rules) };
+}
+
+/// Why bytes are no script that is run. Of several the first in this order is answered, at its
+/// first place in the order of the document.
+#[derive(Debug, PartialEq, Eq, Drop)]
 pub enum ScriptFault {
     /// There are more than 4,194,304 bytes.
     TooLong,
     /// The bytes are no JSON value.
     NotJson,
-    /// The value is not of the form that is built so far.
+    /// The value there is not of a script's form.
+    Shape(Place),
+    /// The version is neither 1 nor 2.
+    Version,
+    /// There are more than 8 surfaces, 16 actors, 2,048 steps or 65,536 turns.
+    TooMany(Place),
+    /// The actor's name there is not from 1 to 32 lower-case ASCII letters, digits, `_` and `-`, or
+    /// an earlier actor has it.
+    BadName(Place),
+    /// The surface's id, width or height there is out of range, an earlier surface has the id, or
+    /// no surface has it.
+    BadSurface(Place),
+    /// The kind there is none of the five.
+    BadKind(Place),
+    /// The object of props there names something else than props, or the prop there does not take
+    /// its value.
+    BadProp(Place),
+    /// The tag there is not from 1 to 2,147,483,647.
+    BadTag(Place),
+    /// Two actors mount the surface of that id.
+    TwoMounters(u32),
+    /// The turn at that position is not the number of an actor.
+    BadTurn(u32),
+    /// The script asks for what is not built so far. No script is read so: it is answered where a
+    /// script would be run.
     Unbuilt,
 }
 
 /// Why a script was not read.
-#[derive(Clone, Copy, Debug, PartialEq, Eq)]
+#[derive(Debug, PartialEq, Eq, Drop)]
 pub enum ScriptRefusal {
     Fault(ScriptFault),
     /// There was no memory.
     Memory,
 }
-
-/// What is not of the form that is built so far.
-pub(crate) const UNBUILT: ScriptRefusal = ScriptRefusal::Fault(ScriptFault::Unbuilt);
 
 impl From<AllocError> for ScriptRefusal {
     ghost use Rattle.script_read.specs.declared.script.ScriptRefusal.TheVariants.{Memory};

@@ -7,5 +7,7 @@ pub mod Falls
 pub mod View
 pub mod ViewFalls
 pub mod Find
+pub mod Shown
+pub mod Entered
 pub mod Edit
 pub mod Walked

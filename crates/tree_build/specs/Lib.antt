@@ -1,4 +1,5 @@
 pub mod Script
 pub mod Resolved
+pub mod Refusals
 pub mod WrittenViews
 pub mod Unsettled

@@ -1,3 +1,9 @@
+pub mod Histories
+pub mod Mountable
 pub mod Revisions
 pub mod Stands
 pub mod Trees
+pub mod Forests
+pub mod Families
+pub mod Tags
+pub mod Contents

@@ -26,7 +26,8 @@ revisions_from-below size past [] i j d e = let k : j ≡ i = omega arith in rw 
 revisions_from-below size past (v ∷ vs) i j d e =
     revisions_from-below size (revision_after v.op (get_or past 0 (opening size)) (revision_at size past v.held) ∷ past) vs (suc i) j d (omega arith)
 
-seam : (size : Size) (us vs : List PlainRecord)
+-- the revision of the first part stands among those of all records
+pub seam : (size : Size) (us vs : List PlainRecord)
     → get_or (revisions_from size (opening size ∷ []) (us ++ vs)) (length vs) (opening size) ≡ revision_of size us
 seam size us vs =
     ap (λ l. get_or l (length vs) (opening size)) (revisions_from-append size (opening size ∷ []) us vs)

@@ -12,7 +12,8 @@ use Rattle.tree_settle.proofs.Settled.{contents_of-settled}
 use Rattle.tree_revision.specs.Records.{PlainRecord, complete}
 use Rattle.tree_revision.specs.Revisions.{revision_of, revision_after, with_forest}
 use Rattle.tree_revision.specs.Settled.{SettledRevision}
-use Rattle.tree_revision.specs.History.{StandsFor, newest_state}
+use Rattle.tree_revision.specs.History.{HasContentOf}
+use Rattle.tree_revision.specs.Newest.{newest_state}
 use Rattle.tree_revision.proofs.Revisions.{revision_of-next}
 
 -- written nodes name the same forest over any held one
@@ -23,17 +24,17 @@ resolved-written (kept t c s) a b h = absurd h
 resolved-written (kept_with t c k s) a b h = absurd h
 
 -- the contents of a revision are those of its history
-pub contents_of-stands : (first : Size) (revision : SettledRevision) (entries : List PlainRecord) → StandsFor first revision entries
+pub contents_of-stands : (first : Size) (revision : SettledRevision) (entries : List PlainRecord) → HasContentOf first revision entries
     → contents_of revision.forest ≡ (revision_of first entries).forest
 contents_of-stands first revision entries h =
     ap contents_of h.forest ∙ contents_of-settled (revision_of first entries).size (newest_state entries) [] (revision_of first entries).forest
 
 -- the next revision of a complete stands for the history with that record
 pub stands_for_complete : (first : Size) (front held next : SettledRevision) (entries : List PlainRecord) (entry : PlainRecord) (nodes : ScriptForest)
-    → StandsFor first front entries → entry.held ≤ length entries → StandsFor first held (take entry.held entries)
+    → HasContentOf first front entries → entry.held ≤ length entries → HasContentOf first held (take entry.held entries)
     → entry.op ≡ complete nodes → next.number ≡ front.number + 1 → next.size ≡ front.size
     → ((newest : ℕ → StateCell) → next.forest ≡ settled_forest front.size newest (resolved (contents_of held.forest) nodes))
-    → StandsFor first next (entries ++ entry ∷ [])
+    → HasContentOf first next (entries ++ entry ∷ [])
 stands_for_complete first front held next entries entry nodes sf le sh op num sz forest =
     let e : revision_of first (entries ++ entry ∷ []) ≡ with_forest (revision_of first entries) (resolved (revision_of first (take entry.held entries)).forest nodes) =
     revision_of-next first entries entry le ∙ ap (λ o. revision_after o (revision_of first entries) (revision_of first (take entry.held entries))) op in

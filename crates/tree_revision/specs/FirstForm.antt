@@ -1,14 +1,12 @@
--- The scripts that the engine runs so far: one surface, one actor, and steps that complete a tree of written views or mount.
-use Rattle.std.specs.Prelude.{◌≡◌, ◌≤◌, [], ◌∷◌, length}
-use Rattle.std.specs.Prelude.{All}
-use Rattle.tree_settle.specs.Limits.{IsSizeInRange}
+-- The changes that are prepared so far: those that complete a tree of written views.
+use Rattle.std.specs.Prelude.{◌≤◌}
 use Rattle.shadow_node.specs.Forest.{PlainForest, none, depth_of, node_count}
 use Rattle.shadow_node.specs.Fields.{NodeFields}
 use Rattle.tree_build.specs.Script.{ScriptForest}
 use Rattle.tree_build.specs.WrittenViews.{AreWrittenViews}
 use Rattle.tree_build.specs.Resolved.{resolved}
 use Rattle.tree_revision.specs.Records.{PlainOp, complete, state, props, resize, stop, suspend, resume}
-use Rattle.tree_revision.specs.Script.{PlainAct, commit, hold, mount, PlainActor, PlainSurface, PlainScript}
+use Rattle.tree_revision.specs.Script.{PlainAct, commit, hold, mount}
 
 -- the forest that script nodes write out by themselves
 abbrev pub written_out : ScriptForest → PlainForest NodeFields
@@ -35,15 +33,3 @@ abbrev pub IsFirstAct : PlainAct → Type 0
 IsFirstAct (commit op) = IsFirstOp op
 IsFirstAct hold = ⊥
 IsFirstAct mount = Unit {0}
-
--- a script of one surface and one actor with such steps, at most 2,048, all on that surface
-pub record IsFirstForm (script : PlainScript) : Type 0 where
-  pub surface : PlainSurface
-  pub actor : PlainActor
-  pub surfaces : script.surfaces ≡ surface ∷ []
-  pub actors : script.actors ≡ actor ∷ []
-  pub turns : script.turns ≡ []
-  pub size : IsSizeInRange surface.size
-  pub steps : length actor.steps ≤ 2048
-  pub acts : All (λ step. IsFirstAct step.act) actor.steps
-  pub places : All (λ step. step.surface ≡ surface.id) actor.steps

@@ -1,6 +1,15 @@
-pub mod Settled
 pub mod Records
 pub mod Script
+pub mod InRange
+pub mod Sound
 pub mod Revisions
+pub mod Newest
+pub mod Cancels
+pub mod Lawful
+pub mod Tags
+pub mod Mountable
+pub mod Settled
 pub mod History
+pub mod Stands
+pub mod Stamps
 pub mod FirstForm

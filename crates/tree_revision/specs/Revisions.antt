@@ -1,7 +1,5 @@
 -- Revisions as plain data: a commit is a function from one revision to the next.
-use Rattle.std.specs.Prelude.{ℕ, ◌-◌, List, [], ◌∷◌, length, slice_index_or, nat_eq, if◌then◌else◌}
-use Rattle.std.specs.Ordering.{nat_cmp}
-use Rattle.std.specs.FinMap as map
+use Rattle.std.specs.Prelude.{ℕ, ◌-◌, List, [], ◌∷◌, ◌++◌, length, slice_index_or, nat_eq, if◌then◌else◌, Option, Some, None}
 use Rattle.shadow_frame.specs.declared.Size.{Size}
 use Rattle.shadow_kinds.specs.declared.Kind.{Kind}
 use Rattle.shadow_node.specs.Forest.{PlainForest, none, node, preorder}
@@ -11,20 +9,35 @@ use Rattle.shadow_node.specs.Edit.{edited}
 use Rattle.tree_build.specs.Resolved.{resolved}
 use Rattle.tree_revision.specs.Records.{PlainOp, complete, state, props, resize, stop, suspend, resume, PlainRecord}
 
--- a surface's size, its forest, and the kind of each tag that was ever mounted; a revision has no frames and no states of its own
+-- a family: a tag, and the kind that it has for the life of the surface
+pub record PlainFamily : Type 0 where
+  pub tag : ℕ
+  pub kind : Kind
+
+-- a surface's size, its forest, and the families of all tags that were ever mounted, in the order in which they came; a revision has no frames and no states of its own
 pub record PlainRevision : Type 0 where
   pub size : Size
   pub forest : PlainForest NodeFields
-  pub families : map.FinMap nat_cmp Kind
+  pub families : List PlainFamily
 
 -- a surface before its first commit
 abbrev pub opening : Size → PlainRevision
-opening size = record { size = size; forest = none; families = map.empty }
+opening size = record { size = size; forest = none; families = [] }
+
+-- the kind of a tag's family, where it has one
+abbrev pub kind_of_family : List PlainFamily → ℕ → Option Kind
+kind_of_family [] tag = None
+kind_of_family (family ∷ families) tag = if nat_eq family.tag tag then Some family.kind else kind_of_family families tag
+
+-- families and that of a node, which comes last where it is new
+abbrev pub added_to : List PlainFamily → NodeFields → Option Kind → List PlainFamily
+added_to families fields None = families ++ (record { tag = fields.tag; kind = fields.kind }) ∷ []
+added_to families fields (Some kind) = families
 
 -- the families, and those of these nodes that are new
-abbrev pub families_with : map.FinMap nat_cmp Kind → List NodeFields → map.FinMap nat_cmp Kind
+abbrev pub families_with : List PlainFamily → List NodeFields → List PlainFamily
 families_with families [] = families
-families_with families (fields ∷ others) = families_with (map.insert families fields.tag fields.kind) others
+families_with families (fields ∷ others) = families_with (added_to families fields (kind_of_family families fields.tag)) others
 
 -- a forest with a change of the nodes of that tag
 abbrev pub edited_at : ℕ → NodeEdit → PlainForest NodeFields → PlainForest NodeFields

@@ -1,6 +1,7 @@
 //! Revisions of a surface, and the records that lead from one to the next.
 #![tactic(auto)]
 
+pub mod laws;
 mod next;
 mod record;
 mod revision;

@@ -10,7 +10,7 @@ ghost use Rattle.shadow_node.specs.Frames.{settled_forest};
 ghost use Rattle.tree_build.specs.Script.{script_forest};
 ghost use Rattle.tree_build.specs.Resolved.{resolved};
 ghost use Rattle.tree_revision.specs.FirstForm.{IsFirstTree, IsFirstOp, written_out};
-ghost use Rattle.tree_revision.specs.History.{StandsFor};
+ghost use Rattle.tree_revision.specs.History.{HasContentOf};
 ghost use Rattle.tree_revision.specs.Records.{PlainRecord, plain_op, nodes_of};
 ghost use Rattle.tree_revision.specs.declared.next.PrepareRefusal.TheVariants.{Memory};
 
@@ -78,7 +78,7 @@ pub fn prepare(
     requires number { front.now.number < 2 ^ 64 - 1 }
     requires op { IsFirstOp (plain_op op.now) }
     ensures number { IfOk result (λ next. next.number ≡ front.now.number + 1) }
-    ensures next { IfOk result (λ next. (first : SurfaceSize) (entries : List PlainRecord) (entry : PlainRecord) → StandsFor first front.now entries → entry.held ≤ length entries → StandsFor first held.now (take entry.held entries) → entry.op ≡ plain_op op.now → StandsFor first next (entries ++ entry ∷ [])) }
+    ensures next { IfOk result (λ next. (first : SurfaceSize) (entries : List PlainRecord) (entry : PlainRecord) → HasContentOf first front.now entries → entry.held ≤ length entries → HasContentOf first held.now (take entry.held entries) → entry.op ≡ plain_op op.now → HasContentOf first next (entries ++ entry ∷ [])) }
     ensures made { OnOk result (made.new ≡ nodes_more (nodes_more made.old (node_count (written_out (nodes_of (plain_op op.now))))) (node_count (written_out (nodes_of (plain_op op.now))))) }
     ensures refused { IfErr result (λ refusal. refusal ≡ Memory) }
 {

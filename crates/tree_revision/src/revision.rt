@@ -3,7 +3,7 @@
 ghost use Rattle.std.specs.Prelude.{◌≡◌, [], IfOk};
 ghost use Rattle.shadow_node.specs.Forest.{none};
 ghost use Rattle.tree_settle.specs.Limits.{IsSizeInRange, IsForestInLimits};
-ghost use Rattle.tree_revision.specs.History.{StandsFor};
+ghost use Rattle.tree_revision.specs.History.{HasContentOf};
 
 use shadow_frame::Size;
 use shadow_node::Forest;
@@ -35,7 +35,7 @@ impl Revision {
     pub fn opening(_alloc: Global, size: Size) -> Result<Revision, AllocError>
         requires { IsSizeInRange size }
         ensures value { IfOk result (λ first. first ≡ record { number = 0; size = size; forest = none }) }
-        ensures stands { IfOk result (λ first. StandsFor size first []) }
+        ensures stands { IfOk result (λ first. HasContentOf size first []) }
     {
         Ok(Revision {
             number: 0,

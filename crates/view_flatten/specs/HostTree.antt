@@ -1,32 +1,32 @@
 -- The host tree of a forest: which nodes have a view, and where it stands.
--- So far no node of a forest forms a context, so that the root, 0, is the only host parent.
-use Rattle.std.specs.Prelude.{ℕ, ◌+◌, ◌+ℤ◌, List, [], ◌∷◌, ◌++◌, Bool, filter}
+use Rattle.std.specs.Prelude.{ℕ, zero, suc, ◌+◌, ◌+ℤ◌, List, [], ◌∷◌, length, Bool, ◌&&◌, nat_eq, int_lt, if◌then◌else◌, filter}
+use Rattle.std.specs.List.{flat_map}
 use Rattle.shadow_frame.specs.declared.Point.{Point}
-use Rattle.shadow_kinds.specs.Traits.{forms_view_of}
-use Rattle.shadow_node.specs.Forest.{PlainForest, none, node}
+use Rattle.shadow_kinds.specs.Axes.{z_order_of}
+use Rattle.shadow_kinds.specs.Traits.{forms_context_of, forms_view_of}
+use Rattle.shadow_node.specs.Forest.{PlainForest}
 use Rattle.shadow_node.specs.Fields.{SettledFields}
+use Rattle.shadow_node.specs.Shown.{Descendant, descendants, is_shown}
 use Rattle.host_views.specs.declared.HostView.{HostView}
 use Rattle.host_views.specs.Plain.{PlainHostTree}
 
--- a node with its ancestors, the nearest first
-pub record Descendant : Type 0 where
-  pub settled : SettledFields
-  pub above : List SettledFields
+-- a node that forms a context
+abbrev pub is_context : SettledFields → Bool
+is_context settled = forms_context_of settled.fields.kind settled.fields.props
 
--- the nodes of a forest below its ancestors, in preorder
-abbrev pub descendants : List SettledFields → PlainForest SettledFields → List Descendant
-descendants above none = []
-descendants above (node settled children siblings) =
-    record { settled = settled; above = above } ∷ descendants (settled ∷ above) children ++ descendants above siblings
+-- the host parent below some ancestors, the nearest first: the nearest one that forms a context, at last the root, 0
+abbrev pub host_parent : List SettledFields → ℕ
+host_parent [] = 0
+host_parent (parent ∷ above) = if is_context parent then parent.fields.tag else host_parent above
 
 -- one place moved by another
 abbrev pub moved : Point → Point → Point
 moved a b = record { x = a.x +ℤ b.x; y = a.y +ℤ b.y }
 
--- where a node begins in its host parent: the sum of the frame origins of the node and of its ancestors
+-- where a node begins in its host parent: the sum of the frame origins of the node and of its ancestors below that parent
 abbrev pub host_origin : SettledFields → List SettledFields → Point
 host_origin settled [] = settled.frame.origin
-host_origin settled (parent ∷ above) = moved (host_origin parent above) settled.frame.origin
+host_origin settled (parent ∷ above) = if is_context parent then settled.frame.origin else moved (host_origin parent above) settled.frame.origin
 
 -- the view of a node
 abbrev pub view_of : Descendant → HostView
@@ -38,16 +38,44 @@ view_of here = record {
   frame = record { origin = host_origin here.settled here.above; size = here.settled.frame.size };
 }
 
--- a node that has a view
+-- a node has a view where it forms one and is shown
 abbrev pub has_view : Descendant → Bool
-has_view here = forms_view_of here.settled.fields.kind here.settled.fields.props
+has_view here = forms_view_of here.settled.fields.kind here.settled.fields.props && is_shown here
 
--- nodes as children of the root, from that index on
-abbrev pub placed_from : ℕ → List Descendant → PlainHostTree
-placed_from index [] = []
-placed_from index (here ∷ others) =
-    record { tag = here.settled.fields.tag; parent = 0; index = index; view = view_of here } ∷ placed_from (index + 1) others
+-- the nodes of a forest that have a view, in preorder
+abbrev pub viewed : PlainForest SettledFields → List Descendant
+viewed forest = filter has_view (descendants forest)
 
--- the host tree of a forest: its nodes that have a view, in preorder
+-- a node's view is a child of that host parent
+abbrev pub is_child_of : ℕ → Descendant → Bool
+is_child_of parent here = nat_eq (host_parent here.above) parent
+
+-- a node among others that go by z: before the first with a greater or an equal z, since it comes before them in preorder
+abbrev pub put_by_z : Descendant → List Descendant → List Descendant
+put_by_z here [] = here ∷ []
+put_by_z here (other ∷ others) =
+    if int_lt (z_order_of other.settled.fields.props) (z_order_of here.settled.fields.props) then other ∷ put_by_z here others else here ∷ other ∷ others
+
+-- nodes ordered by z, and where z is equal as they stand
+abbrev pub by_z : List Descendant → List Descendant
+by_z [] = []
+by_z (here ∷ others) = put_by_z here (by_z others)
+
+-- nodes as children of a host parent, from that index on
+abbrev pub placed_from : (parent index : ℕ) → List Descendant → PlainHostTree
+placed_from parent index [] = []
+placed_from parent index (here ∷ others) =
+    record { tag = here.settled.fields.tag; parent = parent; index = index; view = view_of here } ∷ placed_from parent (index + 1) others
+
+-- of nodes that have a view, the children of a host parent, in their order
+abbrev pub placed_below : List Descendant → ℕ → PlainHostTree
+placed_below nodes parent = placed_from parent 0 (by_z (filter (is_child_of parent) nodes))
+
+-- the views below a host parent, down to so many levels: each child, and then those below it
+abbrev pub views_below : (levels : ℕ) → List Descendant → ℕ → PlainHostTree
+views_below zero nodes parent = []
+views_below (suc levels) nodes parent = flat_map (λ placed. placed ∷ views_below levels nodes placed.tag) (placed_below nodes parent)
+
+-- the host tree of a forest, in host preorder: the views below the root; there are at most as many levels as views
 abbrev pub host_tree_of : PlainForest SettledFields → PlainHostTree
-host_tree_of forest = placed_from 0 (filter has_view (descendants [] forest))
+host_tree_of forest = views_below (length (viewed forest)) (viewed forest) 0

@@ -1,2 +1,3 @@
 pub mod HostTree
 pub mod Walk
+pub mod Places

@@ -1,7 +1,7 @@
 -- The walk over a forest that adds the views with a running place, and what it leaves.
 use Rattle.std.specs.Prelude.{◌≡◌, ℕ, pos, ◌+◌, ◌*◌, ◌≤◌, ◌+ℤ◌, ◌≤ℤ◌, List, [], ◌∷◌, ◌++◌, Bool, true, false, map, length}
 use Rattle.shadow_frame.specs.declared.Point.{Point}
-use Rattle.shadow_kinds.specs.Traits.{forms_view_of}
+use Rattle.shadow_kinds.specs.Traits.{forms_view_of, is_hidden_of}
 use Rattle.shadow_node.specs.Forest.{PlainForest, PlainNode, none, node}
 use Rattle.shadow_node.specs.Fields.{SettledFields}
 use Rattle.host_views.specs.declared.HostView.{HostView}
@@ -36,16 +36,24 @@ when false view = []
 abbrev pub own_view : Point → SettledFields → List TaggedView
 own_view origin settled = when (forms_view_of settled.fields.kind settled.fields.props) (tagged_at origin settled)
 
+-- views that are not shown where a node hides them
+abbrev pub unless_hidden : (is_hidden : Bool) → List TaggedView → List TaggedView
+unless_hidden true views = []
+unless_hidden false views = views
+
 -- the views of a forest whose parent begins at that place
 abbrev pub views_from : Point → PlainForest SettledFields → List TaggedView
 views_from place none = []
 views_from place (node settled children siblings) =
-    own_view (moved place settled.frame.origin) settled ++ views_from (moved place settled.frame.origin) children ++ views_from place siblings
+    unless_hidden (is_hidden_of settled.fields.props)
+    (own_view (moved place settled.frame.origin) settled ++ views_from (moved place settled.frame.origin) children)
+    ++ views_from place siblings
 
 -- the views of one tree whose parent begins at that place
 abbrev pub views_of_node : Point → PlainNode SettledFields → List TaggedView
 views_of_node place tree =
-    own_view (moved place tree.fields.frame.origin) tree.fields ++ views_from (moved place tree.fields.frame.origin) tree.children
+    unless_hidden (is_hidden_of tree.fields.fields.props)
+    (own_view (moved place tree.fields.frame.origin) tree.fields ++ views_from (moved place tree.fields.frame.origin) tree.children)
 
 -- views as children of the root, from that index on
 abbrev pub at_indexes : ℕ → List TaggedView → PlainHostTree
@@ -73,3 +81,7 @@ pub record HasRoomFor (levels : ℕ) (place : Point) : Type 0 where
   pub x_high : (place.x +ℤ pos (105000000 * levels)) ≤ℤ pos 5040000000
   pub y_low : pos (105000000 * levels) ≤ℤ (place.y +ℤ pos 5040000000)
   pub y_high : (place.y +ℤ pos (105000000 * levels)) ≤ℤ pos 5040000000
+
+-- the views of a forest, all as children of the root
+abbrev pub root_tree_of : PlainForest SettledFields → PlainHostTree
+root_tree_of forest = at_indexes 0 (views_from (record { x = pos 0; y = pos 0 }) forest)

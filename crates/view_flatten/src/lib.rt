@@ -8,9 +8,11 @@ ghost use Rattle.host_views.specs.Plain.{plain_tree};
 ghost use Rattle.view_flatten.specs.HostTree.{host_tree_of, moved};
 ghost use Rattle.view_flatten.specs.Walk.{AreAtRoot, HasRoomFor, IsAdded, own_view, tagged_at, views_from, views_of_node};
 
+pub mod laws;
+
 use host_views::{HostTree, HostView, PlacedView, ViewRef};
 use shadow_frame::{Point, Rect};
-use shadow_kinds::forms_view;
+use shadow_kinds::{forms_view, is_hidden};
 use shadow_node::{Forest, NodeRef, ShadowNode};
 use sqlite_items::Items;
 use std::alloc::{AllocError, Global};
@@ -96,7 +98,7 @@ fn begin_of(place: Point, frame: Rect) -> Point
     }
 }
 
-/// Adds the views of a tree whose parent begins at that place.
+/// Adds the views of a tree whose parent begins at that place; a hidden node hides them all.
 #[cycle(walk)]
 fn add_tree(
     alloc: Global,
@@ -111,6 +113,9 @@ fn add_tree(
     ensures views { OnOk result (IsAdded views.old (views_of_node place node.now.value) views.new) }
     ensures count { OnOk result (length views.new ≤ length views.old + node_count node.now.value.children + 1) }
 {
+    if is_hidden(&node.props()) {
+        return Ok(());
+    }
     let origin = begin_of(place, node.frame());
     add_own_view(alloc, views, node, origin)?;
     add_forest(alloc, views, node.children(), origin)

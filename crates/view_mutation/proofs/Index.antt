@@ -2,12 +2,13 @@
 use Rattle.std.proofs.Common.{◌≡◌, ℕ, [], ◌∷◌, true, false, cond, Option, Some, is_some, not, map, refl, ap, ◌∙◌}
 use Rattle.std.specs.Prelude.{filter, nat_eq, ◌||◌}
 use Rattle.host_views.specs.declared.HostView.{HostView}
+use Rattle.host_views.specs.HostTree.{has_tag}
 use Rattle.host_views.specs.Plain.{PlainHostTree, create, delete}
-use Rattle.view_mutation.specs.Mutations.{view_at, has_tag, deletes, creates, updates}
+use Rattle.view_mutation.specs.Mutations.{view_at, deletes, creates, updates}
 use Rattle.view_mutation.specs.Lookups.{deletes_by, creates_by, updates_by}
 
 -- a tag is there exactly where it has a view
-has_tag_by_view : (tree : PlainHostTree) (tag : ℕ) → is_some (view_at tree tag) ≡ has_tag tree tag
+pub has_tag_by_view : (tree : PlainHostTree) (tag : ℕ) → is_some (view_at tree tag) ≡ has_tag tree tag
 has_tag_by_view [] tag = refl
 has_tag_by_view (placed ∷ others) tag =
     elim (nat_eq placed.tag tag) as (λ b. is_some (cond b (Some placed.view) (view_at others tag)) ≡ (b || has_tag others tag)) [

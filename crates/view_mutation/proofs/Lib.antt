@@ -1,3 +1,10 @@
 pub mod Lists
 pub mod Index
 pub mod Root
+pub mod Shows
+pub mod Leading
+pub mod Still
+pub mod Trees
+pub mod Kept
+pub mod Parts
+pub mod Whole

@@ -6,8 +6,8 @@ use Rattle.std.proofs.lemmas.Bool.{cases_lt}
 use Rattle.std.proofs.lemmas.List.Elements.{filter-append}
 use Rattle.host_views.specs.declared.PlacedView.{PlacedView}
 use Rattle.host_views.specs.declared.Mutation.{Mutation}
-use Rattle.host_views.specs.Plain.{PlainPlacedView, PlainHostTree, PlainMutation, remove, insert, plain_placed, plain_mutation}
-use Rattle.view_mutation.specs.Mutations.{host_tags, common_prefix, removes_from, inserts_from}
+use Rattle.host_views.specs.Plain.{PlainPlacedView, PlainHostTree, PlainMutation, remove, insert, plain_placed, plain_mutation, host_tags}
+use Rattle.view_mutation.specs.Mutations.{common_prefix, removes_from, inserts_from}
 use Rattle.view_mutation.specs.Lookups.{IsListed}
 
 -- the views from an index on: the first one, and the others
@@ -61,7 +61,7 @@ pub prefix_at : (old new : List PlacedView) (i : ℕ) (a b : PlacedView) → i <
     ≡ cond (nat_eq a.tag b.tag) (common_prefix (host_tags (map plain_placed (drop (i + 1) old))) (host_tags (map plain_placed (drop (i + 1) new))) + 1) 0
 prefix_at old new i a b h k e f = rw (left_at old i a h e, left_at new i b k f) refl
 
-prefix_none : (xs : List ℕ) → common_prefix xs [] ≡ 0
+pub prefix_none : (xs : List ℕ) → common_prefix xs [] ≡ 0
 prefix_none [] = refl
 prefix_none (x ∷ xs) = refl
 

@@ -8,9 +8,9 @@ use Rattle.std.proofs.Math.Seq.{drop-nil}
 use Rattle.host_views.specs.declared.HostView.{HostView}
 use Rattle.host_views.specs.declared.PlacedView.{PlacedView}
 use Rattle.host_views.specs.declared.Mutation.{Mutation}
-use Rattle.host_views.specs.Plain.{PlainPlacedView, PlainHostTree, PlainMutation, plain_placed, plain_mutation}
+use Rattle.host_views.specs.Plain.{PlainPlacedView, PlainHostTree, PlainMutation, plain_placed, plain_mutation, host_tags}
 use Rattle.view_flatten.specs.Walk.{AreAtRoot}
-use Rattle.view_mutation.specs.Mutations.{host_tags, host_parents, common_prefix, staying, removes_from, inserts_from, removes_at, inserts_at, deletes, creates, updates, mutations_between, view_at}
+use Rattle.view_mutation.specs.Mutations.{host_parents, common_prefix, staying, removes_from, inserts_from, removes_at, inserts_at, deletes, creates, updates, mutations_between, view_at}
 use Rattle.view_mutation.specs.Lookups.{IsListed, deletes_by, creates_by, updates_by}
 use Rattle.view_mutation.proofs.Lists.{tags_left}
 use Rattle.view_mutation.proofs.Index.{same_deletes, same_creates, same_updates}

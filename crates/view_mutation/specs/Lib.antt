@@ -1,2 +1,3 @@
 pub mod Mutations
 pub mod Lookups
+pub mod Leads

@@ -1,21 +1,14 @@
 -- The mutations that lead from one host tree to another: five lists, one after the other.
 use Rattle.std.specs.Prelude.{ℕ, ◌+◌, List, [], ◌∷◌, ◌++◌, Bool, false, not, Option, Some, None, nat_eq, if◌then◌else◌, filter, map, drop}
-use Rattle.std.specs.List.{flat_map, list_any}
+use Rattle.std.specs.List.{flat_map}
 use Rattle.host_views.specs.declared.HostView.{HostView}
-use Rattle.host_views.specs.Plain.{PlainHostTree, PlainMutation, create, delete, insert, remove, update}
+use Rattle.host_views.specs.Plain.{PlainHostTree, PlainMutation, create, delete, insert, remove, update, host_tags, children_at}
 use Rattle.host_views.specs.Same.{is_same_view}
-
--- the tags of a host tree
-abbrev pub host_tags : PlainHostTree → List ℕ
-host_tags tree = map (λ placed. placed.tag) tree
+use Rattle.host_views.specs.HostTree.{has_tag}
 
 -- the host parents of a tree: the root, and then each view in host preorder
 abbrev pub host_parents : PlainHostTree → List ℕ
 host_parents tree = 0 ∷ host_tags tree
-
--- the tags of a host parent's children, in their order
-abbrev pub children_at : PlainHostTree → ℕ → List ℕ
-children_at tree parent = host_tags (filter (λ placed. nat_eq placed.parent parent) tree)
 
 -- how long the longest equal prefix of two lists is
 abbrev pub common_prefix : List ℕ → List ℕ → ℕ
@@ -44,10 +37,6 @@ removes_at old new parent = removes_from parent (staying old new parent) (drop (
 -- the inserts at one host parent: its new children after those that stay
 abbrev pub inserts_at : (old new : PlainHostTree) → ℕ → List PlainMutation
 inserts_at old new parent = inserts_from parent (staying old new parent) (drop (staying old new parent) (children_at new parent))
-
--- whether a tree has a view of that tag
-abbrev pub has_tag : PlainHostTree → ℕ → Bool
-has_tag tree tag = list_any (λ placed. nat_eq placed.tag tag) tree
 
 -- the view of a tag
 abbrev pub view_at : PlainHostTree → ℕ → Option HostView

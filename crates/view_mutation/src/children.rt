@@ -1,8 +1,8 @@
 //! Removes and inserts: the children of the root.
 
 ghost use Rattle.std.specs.Prelude.{◌≡◌, ◌≤◌, length, map, drop, OnOk};
-ghost use Rattle.host_views.specs.Plain.{plain_placed};
-ghost use Rattle.view_mutation.specs.Mutations.{common_prefix, host_tags, inserts_from, removes_from};
+ghost use Rattle.host_views.specs.Plain.{host_tags, plain_placed};
+ghost use Rattle.view_mutation.specs.Mutations.{common_prefix, inserts_from, removes_from};
 ghost use Rattle.view_mutation.specs.Lookups.{IsListed};
 
 use host_views::{Mutation, PlacedView};

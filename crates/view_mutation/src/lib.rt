@@ -9,6 +9,7 @@ ghost use Rattle.view_flatten.specs.Walk.{AreAtRoot};
 ghost use Rattle.view_mutation.specs.Mutations.{mutations_between};
 
 mod children;
+pub mod laws;
 mod tags;
 #[cfg(test)]
 mod tests;

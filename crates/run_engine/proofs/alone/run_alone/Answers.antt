@@ -1,6 +1,6 @@
 use Rattle.std.proofs.Common.{arith, map, take}
 use Rattle.tree_revision.specs.FirstForm.{IsFirstAct}
-use Rattle.run_report.specs.Alone.{begun}
+use Rattle.run_engine.specs.Alone.{begun}
 use Rattle.run_engine.proofs.Steps.{step_holds, come_further}
 use Rattle.script_read.specs.Plain.{plain_step}
 use Rattle.run_engine.proofs.Names.{names_of_run}

@@ -1,6 +1,6 @@
 use Rattle.std.proofs.Common.{◌≤◌, map, take}
 use Rattle.script_read.specs.Plain.{plain_step}
-use Rattle.run_report.specs.Alone.{after_steps, begun}
+use Rattle.run_engine.specs.Alone.{after_steps, begun}
 use Rattle.run_engine.specs.Run.{HasCome}
 use Rattle.run_engine.proofs.alone.run_alone.Given as goal
 

@@ -1,20 +1,19 @@
-use Rattle.std.proofs.Common.{◌≡◌, ◌<◌, drop, map}
-use Rattle.serde_json.specs.Data.{depth, items_depth}
-use Rattle.serde_json.specs.View.{view, items_view}
+use Rattle.std.proofs.Common.{◌≡◌, ◌+◌, drop, map}
+use Rattle.serde_json.specs.Data.{depth}
+use Rattle.serde_json.specs.View.{view}
 use Rattle.tree_build.specs.Script.{in_front}
-use Rattle.script_read.specs.Members.{each}
-use Rattle.script_read.specs.Nodes.{node_of}
-use Rattle.script_read.proofs.Items.{after}
+use Rattle.script_read.proofs.Forests.{before, forest_of}
 use Rattle.script_read.proofs.nodes.+nodes.Given as goal
 
+abbrev pub decreases-read_children : goal.decreases-read_children
+decreases-read_children l = depth (view l.node.now) + depth (view l.node.now)
+
 abbrev pub decreases-read_node : goal.decreases-read_node
-decreases-read_node l = depth (view l.value.now)
+decreases-read_node l = depth (view l.node.now) + depth (view l.node.now) + 1
 
 abbrev pub decreases-read_nodes : goal.decreases-read_nodes
-decreases-read_nodes l = depth (view l.value.now)
+decreases-read_nodes l = depth (view l.tree.now) + depth (view l.tree.now)
 
-abbrev pub invariant-read_nodes-loop-item : goal.invariant-read_nodes-loop-item
-invariant-read_nodes-loop-item l = record {
-  left : each node_of (items_view l.item-items) ≡ after (map in_front l.nodes) (each node_of (items_view (drop l.item-index l.item-items)));
-  below : items_depth (items_view (drop l.item-index l.item-items)) < depth (view l.value);
-}
+abbrev pub invariant-read_nodes-loop-node : goal.invariant-read_nodes-loop-node
+invariant-read_nodes-loop-node l =
+    before (map in_front l.nodes) (forest_of l.two (map view (drop l.node-index l.list))) ≡ forest_of l.two (map view l.list)

@@ -1,6 +1,6 @@
 use Rattle.std.proofs.Common.{◌≡◌, ◌≤◌, ◌++◌, map, drop}
-use Rattle.host_views.specs.Plain.{plain_placed, plain_mutation}
-use Rattle.view_mutation.specs.Mutations.{host_tags, removes_from}
+use Rattle.host_views.specs.Plain.{plain_placed, plain_mutation, host_tags}
+use Rattle.view_mutation.specs.Mutations.{removes_from}
 use Rattle.view_mutation.proofs.children.add_removes.Given as goal
 
 abbrev pub invariant-loop-at : goal.invariant-loop-at

@@ -1,6 +1,6 @@
 use Rattle.std.proofs.Common.{◌≡◌, map, drop, ◌+◌}
-use Rattle.host_views.specs.Plain.{plain_placed}
-use Rattle.view_mutation.specs.Mutations.{common_prefix, host_tags}
+use Rattle.host_views.specs.Plain.{plain_placed, host_tags}
+use Rattle.view_mutation.specs.Mutations.{common_prefix}
 use Rattle.view_mutation.proofs.children.staying.Given as goal
 
 abbrev pub invariant-loop-at : goal.invariant-loop-at

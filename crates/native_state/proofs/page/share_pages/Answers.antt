@@ -1,0 +1,11 @@
+use Rattle.native_state.proofs.Joined.{joined_more, are_pages_more}
+use Rattle.native_state.proofs.page.share_pages.Goals as goal
+
+pub loop-page-preserved : goal.loop-page-preserved
+loop-page-preserved c =
+    let pages = c.args.pages.now in
+    let i = c.loop-page.page-index in
+    record {
+      joined = rw c.in_ok-push.ensures.items (joined_more c.args.all.now.items c.loop-page.all.items pages i c.page-item.result c.in_ok-try_clone.field-0 c.loop-page-test.true c.page-item.is c.in_ok-try_clone.ensures c.loop-page.invariant.joined);
+      pages = rw c.in_ok-push.ensures.items (are_pages_more c.loop-page.all.items pages i c.page-item.result c.in_ok-try_clone.field-0 c.loop-page-test.true c.page-item.is c.in_ok-try_clone.ensures c.requires.pages c.loop-page.invariant.pages);
+    }

@@ -1,0 +1,67 @@
+-- A run before its first turn keeps what a run keeps.
+use Rattle.std.proofs.Common.{◌≡◌, ℕ, true, List, [], ◌∷◌, map, nat_eq, slice_get, option_map, Option, Some, None, arith, refl, ap, sym, ◌∙◌, subst}
+use Rattle.std.specs.List.{AllByRecursion}
+use Rattle.std.proofs.lemmas.Option.{same_Some, slice_get-map}
+use Rattle.std.proofs.lemmas.List.{length-map}
+use Rattle.shadow_frame.specs.declared.Size.{Size}
+use Rattle.tree_revision.specs.Records.{PlainRecord}
+use Rattle.tree_revision.specs.Script.{PlainStep, PlainActor, PlainSurface, PlainScript}
+use Rattle.run_report.specs.Journal.{PlainActorPart}
+use Rattle.run_report.specs.Mounts.{passages_by, passages_named, last_to}
+use Rattle.run_report.specs.Legal.{FollowOn}
+use Rattle.run_report.specs.Machine.{actor_part_of, opened, begun, run_of}
+use Rattle.run_report.proofs.Lists.{numbered_none, all_true, all_map}
+use Rattle.run_report.proofs.Pairs.{each_begun, all_zip_begun}
+use Rattle.run_report.proofs.Looks.{taken_after-none}
+use Rattle.run_report.proofs.Kept.{IsGoodStep, IsUnderWay, IsActorOn, parts_of, IsSurfaceKept, IsActorOf, IsSurfaceOf, IsRunOf}
+
+-- no step is under way
+pub under_way_begun : (first : Size) (id : ℕ) (records : List PlainRecord) (actor : PlainActor) (left : List PlainStep) → IsUnderWay first id records (begun actor) left
+under_way_begun first id records actor [] = tt
+under_way_begun first id records actor (step ∷ steps) = λ on entries m. omega arith
+
+-- an actor that has not begun keeps what it is to keep
+pub actor_on_begun : (first : Size) (id : ℕ) (records : List PlainRecord) (number : ℕ) (actor : PlainActor) → IsActorOn first id records number actor.steps (begun actor)
+actor_on_begun first id records number actor = record {
+  point = λ entries m. omega arith;
+  holds = omega arith;
+  under_way = under_way_begun first id records actor actor.steps;
+  taken = λ entries m.
+      subst (AllByRecursion (λ taken. nat_eq taken.step.surface id ≡ true → IsGoodStep first id entries taken)) (sym (taken_after-none number [] actor.steps)) tt;
+}
+
+-- no passage is named
+pub passages_begun : (id : ℕ) (actors : List PlainActor) → passages_named id (parts_of (map begun actors)) ≡ []
+passages_begun id actors =
+    numbered_none (λ entry. passages_by id entry.0 entry.1.steps) 0 (parts_of (map begun actors)) (λ j m part e at. none j m part at)
+  where
+    is : (j : ℕ) (a : Option PlainActor) (part : PlainActorPart) → option_map actor_part_of (option_map begun a) ≡ Some part → part.steps ≡ []
+    is j None part e = absurd (cc)
+    is j (Some a) part e = ap (λ p. p.steps) (sym (same_Some (actor_part_of (begun a)) part e))
+
+    none : (j m : ℕ) (part : PlainActorPart) → slice_get (parts_of (map begun actors)) j ≡ Some part → passages_by id m part.steps ≡ []
+    none j m part at =
+        ap (passages_by id m)
+        (is j (slice_get actors j) part (sym (slice_get-map actor_part_of (map begun actors) j ∙ ap (option_map actor_part_of) (slice_get-map begun actors j)) ∙ at))
+
+-- so does a surface
+pub surface_begun : (script : PlainScript) (surface : PlainSurface) → IsSurfaceKept script (map begun script.actors) (opened surface)
+surface_begun script surface = record {
+  lawful = tt;
+  base = omega arith;
+  forward = subst (FollowOn 0) (sym (passages_begun surface.id script.actors)) tt;
+  last = ap last_to (passages_begun surface.id script.actors);
+  records = tt;
+  actors_on = each_begun (λ n a b. IsActorOn surface.size surface.id [] n a.steps b) begun script.actors (λ i a. actor_on_begun surface.size surface.id [] i a);
+  mounters = each_begun _ begun script.actors (λ i a m. refl);
+}
+
+-- and so does the run
+pub run_begun : (script : PlainScript) → IsRunOf script (run_of script)
+run_begun script = record {
+  surfaces = all_zip_begun IsSurfaceOf opened script.surfaces (λ s. record { id = refl; first = refl });
+  count = length-map script.actors begun;
+  actors = each_begun (λ n a b. IsActorOf a b) begun script.actors (λ i a. record { name = refl; done = []; steps = refl; answers = tt });
+  kept = all_map (IsSurfaceKept script (map begun script.actors)) opened script.surfaces
+      (all_true (λ s. IsSurfaceKept script (map begun script.actors) (opened s)) (surface_begun script) script.surfaces);
+}

@@ -1,0 +1,8 @@
+use Rattle.run_report.proofs.laws.reports_tell_legal_journals.Goals as goal
+use Rattle.run_report.proofs.JournalBack.{journal_is}
+use Rattle.run_report.proofs.LegalTold.{legal_told}
+
+pub returns : goal.returns
+returns c script a b sound legal_a legal_b range_a range_b e =
+    let told_a = legal_told script a sound legal_a range_a in
+    let told_b = legal_told script b sound legal_b range_b in journal_is script a b told_a.0 told_a.1 told_b.1 e

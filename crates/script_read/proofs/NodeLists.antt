@@ -1,0 +1,26 @@
+-- Lists of the values of nodes.
+use Rattle.std.proofs.Common.{◌≡◌, ℕ, ◌+◌, ◌<◌, ◌≤◌, List, [], ◌∷◌, ◌++◌, map, length, get_or, drop, refl, ap, sym, ◌∙◌}
+use Rattle.std.proofs.lemmas.List.{map-append}
+use Rattle.serde_json.specs.Data.{Items, no_items, item}
+use Rattle.serde_json.specs.View.{view, items_view}
+use Rattle.serde_json.specs.declared.value.Value.{Value}
+use Rattle.tree_build.specs.declared.ScriptNode.{ScriptNode}
+use Rattle.tree_build.specs.Script.{ScriptForest, in_front, script_forest}
+use Rattle.tree_build.proofs.Steps.{script_forest-drop, script_forest-drop_end}
+use Rattle.script_read.specs.Writing.{nodes_json}
+use Rattle.script_read.proofs.ValueLists.{items_then, items_then-pushed, items_then-none}
+
+-- one node more
+pub node_pushed : (nodes : List ScriptNode) (i : ℕ) (node : ScriptNode) (vs ws : List Value) (v : Value) (whole : Items) → i < length nodes → node ≡ get_or nodes i node
+    → ((rest : ScriptForest) → nodes_json (in_front node rest) ≡ item (view v) (nodes_json rest)) → ws ≡ vs ++ v ∷ []
+    → items_then (map view vs) (nodes_json (script_forest (drop i nodes))) ≡ whole
+    → items_then (map view ws) (nodes_json (script_forest (drop (i + 1) nodes))) ≡ whole
+node_pushed nodes i node vs ws v whole within is here pushed before =
+    rw (pushed, map-append view vs (v ∷ []), items_then-pushed (map view vs) (view v) (nodes_json (script_forest (drop (i + 1) nodes))), ← here (script_forest (drop (i + 1) nodes)), ← script_forest-drop nodes i node within is)
+    before
+
+-- all nodes
+pub all_nodes : (nodes : List ScriptNode) (i : ℕ) (vs : List Value) (whole : Items) → length nodes ≤ i
+    → items_then (map view vs) (nodes_json (script_forest (drop i nodes))) ≡ whole → items_view vs ≡ whole
+all_nodes nodes i vs whole past before =
+    sym (items_then-none (map view vs)) ∙ ap (λ left. items_then (map view vs) (nodes_json left)) (sym (script_forest-drop_end nodes i past)) ∙ before

@@ -1,0 +1,5 @@
+use Rattle.view_flatten.proofs.Places.{each_view_of_one}
+use Rattle.view_flatten.proofs.laws.views_are_of_nodes.Goals as goal
+
+pub returns : goal.returns
+returns c = each_view_of_one

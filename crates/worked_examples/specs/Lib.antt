@@ -1,0 +1,13 @@
+pub mod Words
+pub mod FirstPath
+pub mod EmptyTreeTwoMounts
+pub mod StateCarriedOverRetry
+pub mod TwoAddsWithRetry
+pub mod StaleSetIf
+pub mod StateAfterUnmount
+pub mod KeptTwiceAndKeptUnknown
+pub mod ZOrdersChildren
+pub mod ChildrenReordered
+pub mod SurfaceStopped
+pub mod HiddenAndShownAgain
+pub mod SuspendedMounting

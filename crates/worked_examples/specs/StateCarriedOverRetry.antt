@@ -1,0 +1,44 @@
+-- A state set between the look and the offer of a complete is carried over its retry.
+use Rattle.std.specs.Prelude.{ℕ, pos, List, [], ◌∷◌, codes, None}
+use Rattle.prop_table.specs.declared.rows.TheConstants.{HEIGHT, WIDTH}
+use Rattle.shadow_kinds.specs.declared.Kind.TheVariants.{Scroll}
+use Rattle.native_state.specs.declared.StateChange.TheVariants.{Set}
+use Rattle.tree_build.specs.Script.{kept, no_more}
+use Rattle.tree_revision.specs.Records.{complete, state}
+use Rattle.tree_revision.specs.Script.{PlainScript, commit}
+use Rattle.worked_examples.specs.Words.{actor_of, lines, on_one, script_with, written_node}
+
+abbrev pub script : PlainScript
+script = script_with 1
+    (actor_of (codes "js")
+    (on_one (commit (complete (written_node 7 Scroll ((WIDTH, pos 100) ∷ (HEIGHT, pos 100) ∷ [])
+    no_more
+    no_more)))
+    ∷ on_one (commit (complete (kept 7 None no_more)))
+    ∷ [])
+    ∷ actor_of (codes "ui")
+    (on_one (commit (state 7 (Set (record { x = pos 0; y = pos 40 }))))
+    ∷ [])
+    ∷ [])
+    (0 ∷ 0 ∷ 0 ∷ 1 ∷ 1 ∷ 0 ∷ 0 ∷ 0 ∷ [])
+
+abbrev pub report : List ℕ
+report = lines (
+    codes "report 1" ∷
+    codes "surface 1" ∷
+    codes "commit 1 js 0 complete held 0" ∷
+    codes "commit 2 ui 0 state held 0" ∷
+    codes "commit 3 js 1 complete held 1" ∷
+    codes "actor js" ∷
+    codes "step 0 on 1 admitted 1 tries 1" ∷
+    codes "step 1 on 1 admitted 3 tries 2" ∷
+    codes "actor ui" ∷
+    codes "step 0 on 1 admitted 2 tries 1" ∷
+    codes "mounts 1" ∷
+    codes "transaction 0 3 closing" ∷
+    codes "create 7 scroll frame 0 0 100 100 state 1 0 40 width=100 height=100" ∷
+    codes "insert 0 7 0" ∷
+    codes "views 1" ∷
+    codes "view 7 in 0 at 0 scroll frame 0 0 100 100 state 1 0 40 width=100 height=100" ∷
+    codes "end" ∷
+    [])
