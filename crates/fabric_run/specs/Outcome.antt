@@ -8,6 +8,7 @@ use Rattle.script_read.specs.Reads.{script_in}
 use Rattle.script_read.specs.declared.script.ScriptFault.{ScriptFault}
 use Rattle.script_read.specs.declared.script.ScriptFault.TheVariants.{TooLong, Unbuilt}
 use Rattle.run_report.specs.Machine.{journal_of_turns}
+use Rattle.run_report.specs.Legal.{IsLegal}
 use Rattle.run_report.specs.Text.{report_text}
 use Rattle.run_engine.specs.Built.{is_built}
 use Rattle.fabric_run.specs.declared.status.Status.{Status}
@@ -26,10 +27,11 @@ built_only (Err fault) = Err fault
 abbrev pub script_to_run : List ℕ → Result PlainScript ScriptFault
 script_to_run bytes = built_only (script_in bytes)
 
--- the whole report of the script that the bytes are is appended, and nothing else
+-- the whole report of the script that the bytes are is appended, and nothing else; the journal that it tells is legal
 pub record IsReported (bytes : List ℕ) (old new : SinkView) : Type 0 where
   pub script : PlainScript
   pub reads : script_to_run bytes ≡ Ok script
+  pub legal : IsLegal script (journal_of_turns script)
   pub written : Whole old new (report_text (journal_of_turns script))
 
 -- a write failed: the count of the sink rose, and the first bytes of the report are appended

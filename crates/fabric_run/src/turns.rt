@@ -12,6 +12,7 @@ use crate::status::Status;
 use crate::texts::told;
 use byte_ports::{ReadRefusal, Sink, Source, Taken, read_up_to};
 use run_engine::{is_built, run_turns};
+use run_report::laws::journals_of_turns_are_legal;
 use run_report::write_report;
 use script_read::{Script, ScriptFault, ScriptRefusal, read_script};
 use shadow_node::Made;
@@ -46,6 +47,7 @@ fn run_bytes<K: Sink>(alloc: Global, made: &mut Made, bytes: &[u8], out: &mut K)
     let Ok(journal) = run_turns(alloc, made, &script) else {
         return Status::Memory;
     };
+    journals_of_turns_are_legal();
     match write_report(&journal, out) {
         Ok(()) => Status::Done,
         Err(_) => Status::WriteFault,
