@@ -31,3 +31,4 @@ pub mod LegalTold
 mod Runs
 mod Surfaces
 mod Turns
+mod States

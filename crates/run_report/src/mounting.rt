@@ -1,6 +1,12 @@
 //! Laws of mounting: the host trees of a history.
 
-ghost use Rattle.std.specs.Prelude.{List, ◌++◌};
+ghost use Rattle.std.specs.Prelude.{◌≡◌, List, ◌++◌, true};
+ghost use Rattle.std.specs.List.{AllByRecursion};
+ghost use Rattle.shadow_kinds.specs.Traits.{has_state_of};
+ghost use Rattle.shadow_node.specs.Forest.{PlainForest};
+ghost use Rattle.shadow_node.specs.Fields.{SettledFields};
+ghost use Rattle.shadow_node.specs.Shown.{descendants, is_shown};
+ghost use Rattle.view_flatten.specs.Places.{HasItsPlace};
 ghost use Rattle.shadow_frame.specs.declared.Size.{Size};
 ghost use Rattle.host_views.specs.HostTree.{IsHostTree};
 ghost use Rattle.view_flatten.specs.HostTree.{host_tree_of};
@@ -19,4 +25,11 @@ pub fn lawful_histories_have_host_trees()
 pub fn lawful_histories_lead_on()
     ensures { (first : Size) (entries more : List PlainRecord) → IsLawful first (entries ++ more)
         → LeadOn (host_tree_of (settled_of first entries)) (host_tree_of (settled_of first (entries ++ more))) }
+{}
+
+/// For every forest, as each revision of a history has one: each mounted node that is shown and whose kind has a state
+/// has its place in the host tree, with its view.
+pub fn shown_states_have_views()
+    ensures { (forest : PlainForest SettledFields)
+        → AllByRecursion (λ here. has_state_of here.settled.fields.kind ≡ true → is_shown here ≡ true → HasItsPlace (host_tree_of forest) here) (descendants forest) }
 {}
