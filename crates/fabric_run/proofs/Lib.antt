@@ -1,3 +1,4 @@
 pub mod Outcome
 pub mod OneWord
 pub mod Told
+pub mod Counts

@@ -1,17 +1,15 @@
 -- What is answered where no count of faults rose, by the bytes of the source.
-use Rattle.std.proofs.Common.{◌≡◌, ◌<◌, ℕ, List, length, true, false, ap, sym, ◌∙◌, refl, subst, inl, inr}
+use Rattle.std.proofs.Common.{◌≡◌, ◌<◌, ℕ, List, length, true, ap, sym, ◌∙◌, refl, subst, inl, inr}
 use Rattle.std.specs.Prelude.{Option, Some, None, Ok, Err, Result, nat_lt}
 use Rattle.std.proofs.lemmas.Bool.{lt-ltb}
-use Rattle.script_read.specs.declared.script.ScriptFault.TheVariants.{TooLong, Unbuilt}
-use Rattle.script_read.specs.Reads.{script_in}
-use Rattle.run_engine.specs.Built.{is_built}
+use Rattle.script_read.specs.declared.script.ScriptFault.TheVariants.{TooLong}
 use Rattle.byte_ports.specs.Sources.{SourceView, IsToldAs, IsLongerThan}
 use Rattle.byte_ports.specs.Sinks.{SinkView}
 use Rattle.tree_revision.specs.Script.{PlainScript}
 use Rattle.script_read.specs.declared.script.ScriptFault.{ScriptFault}
 use Rattle.fabric_run.specs.declared.status.Status.{Status}
 use Rattle.fabric_run.specs.declared.status.Status.TheVariants.{Done, Refused, Usage, ReadFault, WriteFault, Memory}
-use Rattle.fabric_run.specs.Outcome.{script_to_run, TurnsLeave, HasRisen, SourceIsRefused, ReadsAndLeaves, BytesLeave, IsDoneOrMemory, IsRefusedOrMemory}
+use Rattle.fabric_run.specs.Outcome.{script_to_run, TurnsLeave, HasRisen, SourceIsRefused, IsDoneOrMemory, IsRefusedOrMemory}
 
 -- bytes are a script or have a fault, and not both
 never_both : (script : PlainScript) (fault : ScriptFault) (read : Result PlainScript ScriptFault) → read ≡ Ok script → read ≡ Err fault → ⊥
@@ -72,15 +70,3 @@ refused old new out_old out_new Memory bytes fault leaves told reads source = tt
 -- a source of more bytes than a script may have is refused
 pub beyond : (old new : SourceView) (out : SinkView) → IsLongerThan 4194304 old.left → TurnsLeave old new out out (Refused TooLong)
 beyond old new out h = inr (record { fault_is = refl; long = h; unchanged = refl })
-
--- bytes with a fault are not run
-pub faulty : (bytes : List ℕ) (fault : ScriptFault) → script_in bytes ≡ Err fault → script_to_run bytes ≡ Err fault
-faulty bytes fault h = rw h refl
-
--- a script that is not built yet is not run
-pub unbuilt : (bytes : List ℕ) (script : PlainScript) → script_in bytes ≡ Ok script → is_built script ≡ false → script_to_run bytes ≡ Err Unbuilt
-unbuilt bytes script h k = rw (h, k) refl
-
--- and one that is built is
-pub built : (bytes : List ℕ) (script : PlainScript) → script_in bytes ≡ Ok script → is_built script ≡ true → script_to_run bytes ≡ Ok script
-built bytes script h k = rw (h, k) refl

@@ -1,16 +1,15 @@
 -- What the program leaves, by its status.
-use Rattle.std.specs.Prelude.{◌≡◌, ◌⊎◌, ℕ, List, [], Some, Result, Ok, Err, if◌then◌else◌}
+use Rattle.std.specs.Prelude.{◌≡◌, ◌⊎◌, ℕ, List, [], Result, Ok, Err}
 use Rattle.byte_ports.specs.Counts.{Rose}
 use Rattle.byte_ports.specs.Sources.{SourceView, IsToldAs, IsLongerThan}
 use Rattle.byte_ports.specs.Sinks.{SinkView, Whole, Part}
 use Rattle.tree_revision.specs.Script.{PlainScript}
 use Rattle.script_read.specs.Reads.{script_in}
 use Rattle.script_read.specs.declared.script.ScriptFault.{ScriptFault}
-use Rattle.script_read.specs.declared.script.ScriptFault.TheVariants.{TooLong, Unbuilt}
+use Rattle.script_read.specs.declared.script.ScriptFault.TheVariants.{TooLong}
 use Rattle.run_report.specs.Machine.{journal_of_turns}
 use Rattle.run_report.specs.Legal.{IsLegal}
 use Rattle.run_report.specs.Text.{report_text}
-use Rattle.run_engine.specs.Built.{is_built}
 use Rattle.fabric_run.specs.declared.status.Status.{Status}
 use Rattle.fabric_run.specs.declared.status.Status.TheVariants.{Done, Refused, Usage, ReadFault, WriteFault, Memory}
 
@@ -18,14 +17,9 @@ use Rattle.fabric_run.specs.declared.status.Status.TheVariants.{Done, Refused, U
 abbrev pub HasRisen : ℕ → ℕ → Type 0
 HasRisen = Rose
 
--- a script that the engine runs so far, or else that it is not built yet
-abbrev pub built_only : Result PlainScript ScriptFault → Result PlainScript ScriptFault
-built_only (Ok script) = if is_built script then Ok script else Err Unbuilt
-built_only (Err fault) = Err fault
-
--- the script that bytes are and that is run, or else their fault
+-- the script that bytes are, or else their fault
 abbrev pub script_to_run : List ℕ → Result PlainScript ScriptFault
-script_to_run bytes = built_only (script_in bytes)
+script_to_run bytes = script_in bytes
 
 -- the whole report of the script that the bytes are is appended, and nothing else; the journal that it tells is legal
 pub record IsReported (bytes : List ℕ) (old new : SinkView) : Type 0 where

@@ -1,7 +1,8 @@
 -- What is told on the error stream.
 use Rattle.std.specs.Prelude.{ℕ, List, [], ◌++◌, codes, ◌⊎◌}
 use Rattle.byte_ports.specs.Sinks.{SinkView, Whole, Part}
-use Rattle.run_report.specs.Text.{line_end, number_line}
+use Rattle.run_report.specs.Text.{number_line}
+use Rattle.run_report.specs.TextParts.{line_end}
 use Rattle.script_read.specs.declared.script.Place.{Place}
 use Rattle.script_read.specs.declared.script.ScriptFault.{ScriptFault}
 use Rattle.script_read.specs.declared.script.ScriptFault.TheVariants.{TooLong, NotJson, Shape, Version, TooMany, BadName, BadSurface, BadKind, BadProp, BadTag, TwoMounters, BadTurn, Unbuilt}

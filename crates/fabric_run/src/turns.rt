@@ -1,45 +1,26 @@
 //! The command `turns`: a script is read, run by its list of turns, and reported.
 
-ghost use Rattle.std.specs.Prelude.{IfOk, IsTrue};
-ghost use Rattle.tree_revision.specs.Sound.{IsSoundScript};
-ghost use Rattle.script_read.specs.Plain.{plain_script};
-ghost use Rattle.script_read.specs.Reads.{ReadsScript};
-ghost use Rattle.run_engine.specs.Built.{is_built as is_built_of};
-ghost use Rattle.fabric_run.specs.Outcome.{script_to_run, BytesLeave, TurnsLeave};
+ghost use Rattle.fabric_run.specs.Outcome.{BytesLeave, TurnsLeave};
 ghost use Rattle.fabric_run.specs.Texts.{Tells, status_line};
 
 use crate::status::Status;
 use crate::texts::told;
 use byte_ports::{ReadRefusal, Sink, Source, Taken, read_up_to};
-use run_engine::{is_built, run_turns};
+use run_engine::run_turns;
 use run_report::laws::journals_of_turns_are_legal;
 use run_report::write_report;
-use script_read::{Script, ScriptFault, ScriptRefusal, read_script};
+use script_read::{ScriptFault, ScriptRefusal, read_script};
 use shadow_node::Made;
 use std::alloc::Global;
 
 /// The most bytes that a script has.
 const SCRIPT_BYTES: usize = 4_194_304;
 
-/// The script that the bytes are, where it is one that is run.
-fn read_to_run(alloc: Global, bytes: &[u8]) -> Result<Script, ScriptRefusal>
-    ensures read { ReadsScript (script_to_run bytes.now) result }
-    ensures built { IfOk result (λ script. IsTrue (is_built_of (plain_script script))) }
-    ensures sound { IfOk result (λ script. IsSoundScript (plain_script script)) }
-{
-    let script = read_script(alloc, bytes)?;
-    if is_built(alloc, &script)? {
-        Ok(script)
-    } else {
-        Err(ScriptRefusal::Fault(ScriptFault::Unbuilt))
-    }
-}
-
 /// Runs the script that the bytes are, and writes its report.
 fn run_bytes<K: Sink>(alloc: Global, made: &mut Made, bytes: &[u8], out: &mut K) -> Status
     ensures { BytesLeave bytes.now (K.sink_view out.old) (K.sink_view out.new) result }
 {
-    let script = match read_to_run(alloc, bytes) {
+    let script = match read_script(alloc, bytes) {
         Ok(script) => script,
         Err(ScriptRefusal::Fault(fault)) => return Status::Refused(fault),
         Err(ScriptRefusal::Memory) => return Status::Memory,

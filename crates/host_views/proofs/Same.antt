@@ -1,33 +1,22 @@
 -- Two views are the same exactly where they are equal.
-use Rattle.std.proofs.Common.{true, ◌≡◌, ◌↔◌, IsTrue, Bool, Option, Some, None, Decides, refl, ap}
+use Rattle.std.proofs.Common.{true, ◌≡◌, ◌↔◌, IsTrue, Bool, Decides, refl, ap}
 use Rattle.std.specs.Prelude.{nat_eq}
 use Rattle.std.specs.Ordering.{int_eq}
 use Rattle.std.specs.Cmp.Lexicographic.{pointwise}
-use Rattle.std.specs.Option.{option_eq}
 use Rattle.std.proofs.lemmas.Bool.{false≢true}
 use Rattle.std.proofs.lemmas.Bool.Decides.{same_from_decides, Decides-eqb, Decides-int_eq, Decides-and}
 use Rattle.std.proofs.lemmas.Slice.Eq.{slice_eq-Decides}
-use Rattle.shadow_frame.specs.declared.Rect.{Rect}
-use Rattle.shadow_frame.specs.declared.Point.{Point}
-use Rattle.shadow_frame.specs.declared.Size.{Size}
-use Rattle.native_state.specs.declared.StateCell.{StateCell}
 use Rattle.prop_table.specs.Props.{PropList}
 use Rattle.shadow_kinds.specs.declared.Kind.{Kind}
 use Rattle.shadow_kinds.specs.declared.Kind.TheVariants.{View, Text, Image, Scroll, Input}
 use Rattle.host_views.specs.declared.HostView.{HostView}
-use Rattle.host_views.specs.Same.{is_same_kind, is_same_props, is_same_point, is_same_size, is_same_frame, is_same_cell, is_same_view}
+use Rattle.shadow_frame.proofs.Same.{by_parts, same_options, same_frames}
+use Rattle.native_state.proofs.Same.{same_cells}
+use Rattle.native_state.specs.Same.{is_same_cell}
+use Rattle.host_views.specs.Same.{is_same_props, is_same_view}
+use Rattle.shadow_kinds.specs.Words.{code_of}
 
--- a test of the parts is a test of the whole
-by_parts : {P Q : Type 0} (r : Bool) → Decides r P → (P → Q) → (Q → P) → Decides r Q
-by_parts r d whole parts = (λ e. whole (d.0 e), λ q. d.1 (parts q))
-
-same_options : {A : Type 0} (E : A → A → Bool) → ((a b : A) → Decides (E a b) (a ≡ b)) → (x y : Option A) → Decides (option_eq E x y) (x ≡ y)
-same_options E h None None = (λ e. refl, λ e. refl)
-same_options E h None (Some y) = (λ e. absurd (false≢true e), λ e. cc)
-same_options E h (Some x) None = (λ e. absurd (false≢true e), λ e. cc)
-same_options E h (Some x) (Some y) = by_parts (E x y) (h x y) (λ e. ap Some e) (λ e. cc)
-
-same_kinds : (a b : Kind) → Decides (is_same_kind a b) (a ≡ b)
+same_kinds : (a b : Kind) → Decides (nat_eq (code_of a) (code_of b)) (a ≡ b)
 same_kinds View View = (λ e. refl, λ e. refl)
 same_kinds Text Text = (λ e. refl, λ e. refl)
 same_kinds Image Image = (λ e. refl, λ e. refl)
@@ -37,25 +26,6 @@ same_kinds _ _ = (λ e. absurd (false≢true e), λ e. cc)
 
 same_props : (a b : PropList) → Decides (is_same_props a b) (a ≡ b)
 same_props a b = slice_eq-Decides (same_options int_eq Decides-int_eq) a b (is_same_props a b) refl
-
-same_points : (a b : Point) → Decides (is_same_point a b) (a ≡ b)
-same_points a b =
-    by_parts _ (Decides-and _ _ (Decides-int_eq a.x b.x) (Decides-int_eq a.y b.y)) (λ h i. record { x = h.0 i; y = h.1 i }) (λ e. (ap (λ p. p.x) e, ap (λ p. p.y) e))
-
-same_sizes : (a b : Size) → Decides (is_same_size a b) (a ≡ b)
-same_sizes a b =
-    by_parts _ (Decides-and _ _ (Decides-int_eq a.width b.width) (Decides-int_eq a.height b.height)) (λ h i. record { width = h.0 i; height = h.1 i })
-    (λ e. (ap (λ p. p.width) e, ap (λ p. p.height) e))
-
-same_frames : (a b : Rect) → Decides (is_same_frame a b) (a ≡ b)
-same_frames a b =
-    by_parts _ (Decides-and _ _ (same_points a.origin b.origin) (same_sizes a.size b.size)) (λ h i. record { origin = h.0 i; size = h.1 i })
-    (λ e. (ap (λ p. p.origin) e, ap (λ p. p.size) e))
-
-same_cells : (a b : StateCell) → Decides (is_same_cell a b) (a ≡ b)
-same_cells a b =
-    by_parts _ (Decides-and _ _ (Decides-eqb a.count b.count) (same_points a.point b.point)) (λ h i. record { count = h.0 i; point = h.1 i })
-    (λ e. (ap (λ p. p.count) e, ap (λ p. p.point) e))
 
 -- the test of two views decides their equality
 pub same_views : (a b : HostView) → Decides (is_same_view a b) (a ≡ b)

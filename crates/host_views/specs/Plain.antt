@@ -7,11 +7,8 @@ use Rattle.host_views.specs.declared.Mutation.{Mutation}
 use Rattle.host_views.specs.declared.Mutation.TheVariants.{Create, Delete, Insert, Remove, Update}
 
 -- a view at its place; parent 0 is the root
-pub record PlainPlacedView : Type 0 where
-  pub tag : ℕ
-  pub parent : ℕ
-  pub index : ℕ
-  pub view : HostView
+abbrev pub PlainPlacedView : Type 0
+PlainPlacedView = record { tag : ℕ; parent : ℕ; index : ℕ; view : HostView }
 
 -- a host tree: its views in host preorder
 abbrev pub PlainHostTree : Type 0
@@ -27,11 +24,9 @@ children_at tree parent = host_tags (filter (λ placed. nat_eq placed.parent par
 
 -- a change of the platform's views
 pub data PlainMutation : Type 0 where
-  create : ℕ → HostView → PlainMutation
+  create update : ℕ → HostView → PlainMutation
   delete : ℕ → PlainMutation
-  insert : (parent tag index : ℕ) → PlainMutation
-  remove : (parent tag index : ℕ) → PlainMutation
-  update : ℕ → HostView → PlainMutation
+  insert remove : (parent tag index : ℕ) → PlainMutation
 
 -- a placed view without its pointer
 abbrev pub plain_placed : PlacedView → PlainPlacedView

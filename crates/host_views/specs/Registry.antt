@@ -1,5 +1,5 @@
 -- The registry of a platform's views: what it has, when a mutation fits it, and what a mutation makes of it.
-use Rattle.std.specs.Prelude.{◌≡◌, ◌≢◌, ◌≤◌, ℕ, List, [], ◌∷◌, length, map, Bool, false, Option, Some, IsSome, IsSomeAnd, IsNone, nat_eq, if◌then◌else◌, slice_get, ⊤}
+use Rattle.std.specs.Prelude.{◌≡◌, ◌≢◌, ◌≤◌, ℕ, List, [], ◌∷◌, length, map, false, Option, Some, IsSome, IsSomeAnd, IsNone, nat_eq, if◌then◌else◌, slice_get, ⊤}
 use Rattle.std.specs.Option.{option_map, unwrap_or}
 use Rattle.std.specs.List.{list_any}
 use Rattle.std.specs.List as list
@@ -23,24 +23,13 @@ pub record PlainRegistry : Type 0 where
 abbrev pub children_in : PlainRegistry → ℕ → Option (List ℕ)
 children_in registry tag = if nat_eq tag 0 then Some registry.root else option_map (λ shown. shown.children) (get registry.views tag)
 
--- the children of a tag, and none where it is not there
-abbrev pub children_or_none : PlainRegistry → ℕ → List ℕ
-children_or_none registry tag = unwrap_or (children_in registry tag) []
-
--- whether a parent has that tag among its children
-abbrev pub is_child_of : PlainRegistry → (parent tag : ℕ) → Bool
-is_child_of registry parent tag = list_any (nat_eq tag) (children_or_none registry parent)
-
 -- no parent has that tag among its children
 abbrev pub IsNoChild : PlainRegistry → ℕ → Type 0
-IsNoChild registry tag = (parent : ℕ) → is_child_of registry parent tag ≡ false
+IsNoChild registry tag = (parent : ℕ) → list_any (nat_eq tag) (unwrap_or (children_in registry parent) []) ≡ false
 
--- when a mutation may be applied:
--- a create, where its tag is neither 0 nor present;
--- a delete, where its tag is present, no one's child and without children;
+-- when a mutation may be applied: a create, where its tag is neither 0 nor present; a delete, where its tag is present, no one's child and without children;
 -- an insert, where its parent is 0 or present, its tag is present, differs from the parent and is no one's child, and its index is at most the number of children;
--- a remove, where its parent is 0 or present, and its tag stands at its index of the children;
--- an update, where its tag is present and its kind is the same
+-- a remove, where its parent is 0 or present, and its tag stands at its index of the children; an update, where its tag is present and its kind is the same
 abbrev pub Fits : PlainRegistry → PlainMutation → Type 0
 Fits registry (create tag view) = (tag ≢ 0) × IsNone (get registry.views tag)
 Fits registry (delete tag) = IsSomeAnd (get registry.views tag) (λ shown. shown.children ≡ []) × IsNoChild registry tag
@@ -56,18 +45,16 @@ changed_at tag change values = unwrap_or (option_map (λ value. table.insert val
 -- the registry with a change of the children of that parent
 abbrev pub with_children : ℕ → (List ℕ → List ℕ) → PlainRegistry → PlainRegistry
 with_children parent change registry =
-    if nat_eq parent 0
-    then record { root = change registry.root; views = registry.views }
-    else record { root = registry.root; views = changed_at parent (λ shown. record { view = shown.view; children = change shown.children }) registry.views }
+    if nat_eq parent 0 then record registry { root = change registry.root }
+    else record registry { views = changed_at parent (λ shown. record shown { children = change shown.children }) registry.views }
 
 -- the registry after a mutation: what the mutation names is changed, and nothing else
 abbrev pub after_mutation : PlainMutation → PlainRegistry → PlainRegistry
-after_mutation (create tag view) registry = record { root = registry.root; views = table.insert registry.views tag (record { view = view; children = [] }) }
-after_mutation (delete tag) registry = record { root = registry.root; views = table.remove registry.views tag }
+after_mutation (create tag view) registry = record registry { views = table.insert registry.views tag (record { view = view; children = [] }) }
+after_mutation (delete tag) registry = record registry { views = table.remove registry.views tag }
 after_mutation (insert parent tag index) registry = with_children parent (λ children. list.insert children index tag) registry
 after_mutation (remove parent tag index) registry = with_children parent (λ children. list.remove children index) registry
-after_mutation (update tag view) registry =
-    record { root = registry.root; views = changed_at tag (λ shown. record { view = view; children = shown.children }) registry.views }
+after_mutation (update tag view) registry = record registry { views = changed_at tag (λ shown. record shown { view = view }) registry.views }
 
 -- the mutations may be applied one after the other: each fits when its turn comes
 abbrev pub MayApply : List PlainMutation → PlainRegistry → Type 0
@@ -81,7 +68,5 @@ mutated (mutation ∷ mutations) registry = mutated mutations (after_mutation mu
 
 -- a host tree as a registry: each view by its tag, with the tags of its children
 abbrev pub registry_of : PlainHostTree → PlainRegistry
-registry_of tree = record {
-  root = children_at tree 0;
-  views = from_entries (map (λ placed. (placed.tag, record { view = placed.view; children = children_at tree placed.tag })) tree);
-}
+registry_of tree =
+    record { root = children_at tree 0; views = from_entries (map (λ placed. (placed.tag, record { view = placed.view; children = children_at tree placed.tag })) tree) }

@@ -6,3 +6,4 @@ pub mod Joined
 pub mod Merged
 pub mod Parts
 pub mod Sorted
+pub mod Same

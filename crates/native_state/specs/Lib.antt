@@ -2,3 +2,4 @@ pub mod Families
 pub mod Made
 pub mod Pages
 pub mod State
+pub mod Same

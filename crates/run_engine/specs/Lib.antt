@@ -1,4 +1,6 @@
-pub mod Limits
-pub mod Built
-pub mod Alone
+pub mod Numbers
+pub mod Now
+pub mod Actions
+pub mod Event
 pub mod Run
+pub mod Ends

@@ -1,41 +1,39 @@
 //! The engine: it runs the actors of a script.
 #![tactic(auto)]
 
-ghost use Rattle.std.specs.Prelude.{◌≡◌, IfOk, IsTrue};
+ghost use Rattle.std.specs.Prelude.{◌≡◌, IfOk};
 ghost use Rattle.tree_revision.specs.Sound.{IsSoundScript};
 ghost use Rattle.script_read.specs.Plain.{plain_script};
 ghost use Rattle.run_report.specs.Journal.{plain_journal};
 ghost use Rattle.run_report.specs.Machine.{journal_of_turns};
 ghost use Rattle.run_report.specs.Named.{NamesItsActors};
-ghost use Rattle.run_engine.specs.Built.{is_built as is_built_of};
+ghost use Rattle.run_engine.specs.Numbers.{IsWithinNumbers};
 
-mod alone;
-mod built;
+mod actors;
+mod desks;
 mod gate;
-mod limits;
+mod parts;
+mod runs;
 
-use alone::run_alone;
-pub use built::is_built;
 pub use gate::{FreeGate, Gate};
 use run_report::Journal;
+use run_report::laws::journals_of_turns_are_legal;
+use runs::Run;
 use script_read::Script;
 use shadow_node::Made;
 use std::alloc::{AllocError, Global};
 
 /// Runs a script by its list of turns, and answers the journal of the run. It waits for nobody.
 ///
-/// So far it takes the scripts for which `is_built` answers true.
+/// The script has fewer than 2^31 actors, and each of them fewer than 2^31 steps.
 pub fn run_turns(alloc: Global, made: &mut Made, script: &Script) -> Result<Journal, AllocError>
-    requires built { IsTrue (is_built_of (plain_script script.now)) }
     requires sound { IsSoundScript (plain_script script.now) }
+    requires numbers { IsWithinNumbers (plain_script script.now) }
     ensures journal { IfOk result (λ journal. plain_journal journal ≡ journal_of_turns (plain_script script.now)) }
     ensures names { IfOk result (λ journal. NamesItsActors (plain_journal journal)) }
 {
-    let [surface] = script.surfaces.as_slice() else {
-        unreachable!()
-    };
-    let [actor] = script.actors.as_slice() else {
-        unreachable!()
-    };
-    run_alone(alloc, made, surface, actor)
+    journals_of_turns_are_legal();
+    let mut run = Run::start(alloc, script)?;
+    run.turns(alloc, made, script)?;
+    run.finish(alloc)
 }

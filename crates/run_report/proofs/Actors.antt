@@ -9,7 +9,8 @@ use Rattle.tree_revision.specs.declared.record.Answer.{Answer}
 use Rattle.run_report.specs.declared.journal.StepPart.{StepPart}
 use Rattle.run_report.specs.Points.{point_left, point_before, held_after, number_held}
 use Rattle.run_report.specs.Legal.{Answers, TakenStep, taken_after, cancel_for_act}
-use Rattle.run_report.specs.Machine.{ActorNow, later, answered, trying}
+use Rattle.run_report.specs.Machine.{ActorNow, answered}
+use Rattle.run_report.specs.Shorthands.{later, trying}
 use Rattle.run_report.proofs.Lists.{count_grows, all_append}
 use Rattle.run_report.proofs.Pairs.{all_zip_push}
 use Rattle.run_report.proofs.Looks.{IsMore, is_more_push, point_before-push, point_before-other, number_held-push, number_held-other, taken_step, taken_after-push}

@@ -7,7 +7,8 @@ use Rattle.tree_revision.specs.declared.record.Cancel.{Cancel}
 use Rattle.tree_revision.specs.declared.record.Cancel.TheVariants.{Unkept, ChildOfLeaf, TwiceTag, TooDeep, TooManyNodes, KindChanged, FamiliesFull, NotMounted, Stateless, Stale}
 use Rattle.tree_revision.specs.declared.record.Answer.{Answer}
 use Rattle.tree_revision.specs.declared.record.Answer.TheVariants.{Held, Admitted, Cancelled, Mounted, Empty}
-use Rattle.run_report.specs.Text.{cause_text, answer_text, cancelled_head}
+use Rattle.run_report.specs.Text.{cause_text, answer_text}
+use Rattle.run_report.specs.TextParts.{cancelled_head}
 use Rattle.run_report.specs.Ranges.{IsCauseInRange, IsAnswerInRange}
 use Rattle.run_report.proofs.LineWords.{IsWord, ends, other_word, line_off}
 use Rattle.run_report.proofs.Words.{decimal_is_word}

@@ -6,7 +6,8 @@ use Rattle.std.proofs.lemmas.List.Sums.{fold-append}
 use Rattle.tree_revision.specs.Script.{PlainScript}
 use Rattle.tree_revision.specs.Sound.{IsSoundScript}
 use Rattle.run_report.specs.Legal.{IsLegal}
-use Rattle.run_report.specs.Machine.{RunNow, run_of, after_turn, after_turns, ending_turns, journal_of_turns}
+use Rattle.run_report.specs.Machine.{RunNow, run_of, after_turn, ending_turns, journal_of_turns}
+use Rattle.run_report.specs.Shorthands.{after_turns}
 use Rattle.run_report.proofs.Kept.{IsRunOf}
 use Rattle.run_report.proofs.Begun.{run_begun}
 use Rattle.run_report.proofs.Runs.{turns_kept}

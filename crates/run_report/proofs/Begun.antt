@@ -7,9 +7,10 @@ use Rattle.shadow_frame.specs.declared.Size.{Size}
 use Rattle.tree_revision.specs.Records.{PlainRecord}
 use Rattle.tree_revision.specs.Script.{PlainStep, PlainActor, PlainSurface, PlainScript}
 use Rattle.run_report.specs.Journal.{PlainActorPart}
-use Rattle.run_report.specs.Mounts.{passages_by, passages_named, last_to}
+use Rattle.run_report.specs.Mounts.{passages_by, last_to}
+use Rattle.run_report.specs.Shorthands.{passages_named, opened, begun}
 use Rattle.run_report.specs.Legal.{FollowOn}
-use Rattle.run_report.specs.Machine.{actor_part_of, opened, begun, run_of}
+use Rattle.run_report.specs.Machine.{actor_part_of, run_of}
 use Rattle.run_report.proofs.Lists.{numbered_none, all_true, all_map}
 use Rattle.run_report.proofs.Pairs.{each_begun, all_zip_begun}
 use Rattle.run_report.proofs.Looks.{taken_after-none}

@@ -12,7 +12,8 @@ use Rattle.tree_revision.specs.Mountable.{mountable_of}
 use Rattle.tree_revision.specs.declared.record.Cancel.{Cancel}
 use Rattle.tree_revision.specs.declared.record.Answer.TheVariants.{Admitted}
 use Rattle.run_report.specs.Points.{number_held}
-use Rattle.run_report.specs.Machine.{SurfaceNow, ActorNow, RunNow, Moment, moment, later, answered, trying, recorded, looked_with, after_commit, after_event, with_moment, turned_on, turned_by, turned, after_turn, after_turns}
+use Rattle.run_report.specs.Machine.{SurfaceNow, ActorNow, RunNow, Moment, answered, looked_with, after_commit, after_event, with_moment, after_turn, moment}
+use Rattle.run_report.specs.Shorthands.{later, trying, recorded, turned_on, turned_by, turned, after_turns}
 use Rattle.run_report.proofs.Lists.{nil_is_not_cons, slice_get-set_same, slice_get-set_other, all_weaker, all_found, map_leaves}
 use Rattle.run_report.proofs.Kept.{IsSurfaceKept, IsRunOf}
 use Rattle.run_report.proofs.Runs.{found_only, same_ids, own_surface, at_step, turn_kept, turns_kept}

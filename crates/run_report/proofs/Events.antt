@@ -17,9 +17,10 @@ use Rattle.tree_revision.specs.declared.record.Answer.TheVariants.{Held, Admitte
 use Rattle.run_report.specs.declared.journal.StepName.{StepName}
 use Rattle.run_report.specs.declared.journal.StepPart.{StepPart}
 use Rattle.run_report.specs.Points.{number_held}
-use Rattle.run_report.specs.Mounts.{Passage, passage, passage_on, passages_by, passages_named, last_to}
+use Rattle.run_report.specs.Mounts.{Passage, passages_by, last_to}
+use Rattle.run_report.specs.Shorthands.{passage, passage_on, passages_named, recorded, mounted_at}
 use Rattle.run_report.specs.Legal.{FollowOn, cancel_for_act}
-use Rattle.run_report.specs.Machine.{SurfaceNow, ActorNow, actor_part_of, answered, recorded, mounted_at}
+use Rattle.run_report.specs.Machine.{SurfaceNow, ActorNow, actor_part_of, answered}
 use Rattle.run_report.proofs.Lists.{item_within, slice_get-set_same, slice_get-set_other, slice_get_at, enumerate_from-push, all_append, all_weaker, one_passes}
 use Rattle.run_report.proofs.Pairs.{each_set}
 use Rattle.run_report.proofs.Looks.{is_more_self, is_more_push, is_more_take, number_mounted-push}

@@ -6,13 +6,15 @@ use Rattle.host_views.specs.Registry.{PlainRegistry, MayApply, mutated, registry
 use Rattle.view_flatten.specs.HostTree.{host_tree_of}
 use Rattle.view_mutation.specs.Leads.{LeadOn}
 use Rattle.tree_revision.specs.Records.{PlainRecord}
-use Rattle.tree_revision.specs.History.{settled_of}
+use Rattle.tree_revision.specs.Stands.{settled_of}
 use Rattle.tree_revision.specs.Lawful.{IsLawful}
 use Rattle.tree_revision.specs.Mountable.{mountable_of}
 use Rattle.tree_revision.proofs.Histories.{IsLawful-front}
-use Rattle.run_report.specs.Mounts.{Passage, passage, closed, last_to, host_tree_at, mount_along, passage_in}
+use Rattle.mount_coordinator.specs.Mounted.{host_tree_at}
+use Rattle.run_report.specs.Mounts.{Passage, closed, last_to, mount_along, passage_in}
+use Rattle.run_report.specs.Shorthands.{passage}
 use Rattle.run_report.specs.Legal.{FollowOn, AreMountsOn}
-use Rattle.run_report.proofs.HostTrees.{histories_lead_on}
+use Rattle.mount_coordinator.proofs.HostTrees.{histories_lead_on}
 use Rattle.run_report.proofs.Passages.{follow_on_push}
 
 -- the passages of mounts along passages

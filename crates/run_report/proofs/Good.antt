@@ -7,7 +7,8 @@ use Rattle.tree_revision.specs.Cancels.{cancel_of}
 use Rattle.tree_revision.specs.Mountable.{mountable_of}
 use Rattle.tree_revision.specs.declared.record.Cancel.{Cancel}
 use Rattle.tree_revision.specs.declared.record.Answer.TheVariants.{Held, Admitted, Cancelled, Mounted, Empty}
-use Rattle.run_report.specs.Points.{first_mountable, point_before, number_held, number_mounted}
+use Rattle.run_report.specs.Points.{first_mountable, point_before, number_held}
+use Rattle.run_report.specs.Shorthands.{number_mounted}
 use Rattle.run_report.specs.Legal.{cancel_for_act, name_of, record_at}
 use Rattle.run_report.specs.Machine.{ActorNow}
 use Rattle.run_report.proofs.Looks.{IsMore, is_more_push, is_more_length, is_more_take, first_mountable-within, record_at-next, taken_step}

@@ -7,7 +7,8 @@ use Rattle.tree_revision.specs.Script.{PlainScript}
 use Rattle.tree_revision.specs.Sound.{is_name, names_of}
 use Rattle.run_report.specs.Journal.{PlainMount, PlainActorPart, PlainSurfacePart, PlainJournal}
 use Rattle.run_report.specs.Named.{IsByActor, NamesActors}
-use Rattle.run_report.specs.Text.{number_line, transactions_text, last_text, all_mounts_text, histories_text, actors_text, report_text}
+use Rattle.run_report.specs.Text.{number_line, report_text}
+use Rattle.run_report.specs.TextParts.{transactions_text, last_text, all_mounts_text, histories_text, actors_text}
 use Rattle.run_report.specs.Ranges.{IsMountInRange, IsPartInRange}
 use Rattle.run_report.specs.Readable.{HasNames, IsToldBy}
 use Rattle.run_report.proofs.LineWords.{after_same}

@@ -9,8 +9,9 @@ use Rattle.tree_revision.specs.Lawful.{IsLawful}
 use Rattle.tree_revision.specs.Mountable.{mountable_of}
 use Rattle.run_report.specs.declared.journal.StepPart.{StepPart}
 use Rattle.run_report.specs.Journal.{PlainActorPart, PlainJournal}
-use Rattle.run_report.specs.Points.{point_before, number_held, number_mounted}
-use Rattle.run_report.specs.Mounts.{passages_named, last_to}
+use Rattle.run_report.specs.Points.{point_before, number_held}
+use Rattle.run_report.specs.Shorthands.{number_mounted, passages_named}
+use Rattle.run_report.specs.Mounts.{last_to}
 use Rattle.run_report.specs.Legal.{Answers, TakenStep, taken_after, IsOfItsStep, HasItsRecord, cancel_for_act, HasCause, LooksForward, IsTrulyHeld, FollowOn, IsEmptyAt, TriesHaveRoom}
 use Rattle.run_report.specs.Machine.{SurfaceNow, ActorNow, RunNow, actor_part_of}
 use Rattle.run_report.proofs.Pairs.{Each}

@@ -4,7 +4,8 @@ use Rattle.std.specs.List.{AllByRecursion, AllZip, enumerate_from}
 use Rattle.host_views.specs.Registry.{registry_of}
 use Rattle.tree_revision.specs.Script.{PlainActor, PlainScript}
 use Rattle.tree_revision.specs.Mountable.{mountable_of}
-use Rattle.run_report.specs.Mounts.{passages_named, passages_on, last_to}
+use Rattle.run_report.specs.Mounts.{passages_on, last_to}
+use Rattle.run_report.specs.Shorthands.{passages_named}
 use Rattle.run_report.specs.Legal.{Answers, HasFormOf, TakenStep, taken_after, taken_from, taken_on, IsOfItsStep, HasItsRecord, HasCause, LooksForward, IsTrulyHeld, FollowOn, IsEmptyAt, TriesHaveRoom, IsLegalOn, IsLegal}
 use Rattle.run_report.specs.Machine.{SurfaceNow, ActorNow, RunNow, actor_part_of, surface_part_of, journal_at_end}
 use Rattle.run_report.proofs.Lists.{all_numbered, all_true, all_append, all_weaker, all_kept}

@@ -14,8 +14,9 @@ use Rattle.tree_revision.specs.declared.record.Answer.TheVariants.{Held, Admitte
 use Rattle.run_report.specs.declared.journal.StepName.{StepName}
 use Rattle.run_report.specs.declared.journal.StepPart.{StepPart}
 use Rattle.run_report.specs.Journal.{PlainActorPart, PlainSurfacePart, PlainJournal}
-use Rattle.run_report.specs.Named.{IsByActor, NamesActors}
-use Rattle.run_report.specs.Mounts.{Passage, passage, passage_of, passage_on, passages_by, passages_named, passages_on, last_to, passage_in}
+use Rattle.run_report.specs.Named.{IsByActor, NamesActors, NamesItsActors}
+use Rattle.run_report.specs.Mounts.{Passage, passage_of, passages_by, passages_on, last_to, passage_in}
+use Rattle.run_report.specs.Shorthands.{passage, passage_on, passages_named}
 use Rattle.run_report.specs.Legal.{Answers, IsOfItsStep, CommitsStandOnce, IsLegalOn, IsLegal}
 use Rattle.run_report.specs.Ranges.{IsInRange}
 use Rattle.run_report.specs.Readable.{HasNames, IsToldBy}
@@ -100,21 +101,25 @@ all_second R P [] (y ∷ ys) gives p = absurd p
 all_second R P (x ∷ xs) [] gives p = absurd p
 all_second R P (x ∷ xs) (y ∷ ys) gives p = (gives x y p.0, all_second R P xs ys gives p.1)
 
--- a sound script has names, and a legal journal of it in range is told by its report
-pub legal_told : (script : PlainScript) (journal : PlainJournal) → IsSoundScript script → IsLegal script journal → IsInRange journal → HasNames script × IsToldBy script journal
-legal_told script journal sound legal ranges =
+-- a legal journal of a script names only actors that it has
+pub legal_names : (script : PlainScript) (journal : PlainJournal) → IsLegal script journal → NamesItsActors journal
+legal_names script journal legal =
     let same : length journal.actors ≡ length script.actors =
     AllZip-long (λ (actor : PlainActor) (part : PlainActorPart). AllZip Answers actor.steps part.steps) script.actors journal.actors legal.form.answers in
-    let by : AllByRecursion (NamesActors (length journal.actors)) journal.surfaces =
-    all_second (λ (surface : PlainSurface) (part : PlainSurfacePart). IsLegalOn script journal surface.size part) (NamesActors (length journal.actors)) script.surfaces journal.surfaces
-    (λ surface part p. part_names script journal surface.size part same p) legal.surfaces in (
-      record { names = recursion_from_All (λ name. IsTrue (is_name name)) (names_of script.actors) sound.names; differ = sound.names_differ },
-      record {
-        form = legal.form;
-        commits =
-            all_second (λ (surface : PlainSurface) (part : PlainSurfacePart). IsLegalOn script journal surface.size part)
-            (λ part. CommitsStandOnce script journal part.id part.records) script.surfaces journal.surfaces (λ surface part p. p.commits_stand_once) legal.surfaces;
-        names = All-from_recursion (NamesActors (length journal.actors)) journal.surfaces by;
-        ranges = ranges;
-      },
-    )
+    All-from_recursion (NamesActors (length journal.actors)) journal.surfaces
+    (all_second (λ (surface : PlainSurface) (part : PlainSurfacePart). IsLegalOn script journal surface.size part) (NamesActors (length journal.actors)) script.surfaces journal.surfaces
+    (λ surface part p. part_names script journal surface.size part same p) legal.surfaces)
+
+-- a sound script has names, and a legal journal of it in range is told by its report
+pub legal_told : (script : PlainScript) (journal : PlainJournal) → IsSoundScript script → IsLegal script journal → IsInRange journal → HasNames script × IsToldBy script journal
+legal_told script journal sound legal ranges = (
+  record { names = recursion_from_All (λ name. IsTrue (is_name name)) (names_of script.actors) sound.names; differ = sound.names_differ },
+  record {
+    form = legal.form;
+    commits =
+        all_second (λ (surface : PlainSurface) (part : PlainSurfacePart). IsLegalOn script journal surface.size part)
+        (λ part. CommitsStandOnce script journal part.id part.records) script.surfaces journal.surfaces (λ surface part p. p.commits_stand_once) legal.surfaces;
+    names = legal_names script journal legal;
+    ranges = ranges;
+  },
+)

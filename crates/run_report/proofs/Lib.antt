@@ -1,18 +1,17 @@
-mod Actors
-mod AtEnd
-mod Begun
+pub mod Actors
+pub mod AtEnd
+pub mod Begun
 mod Ending
-mod Events
+pub mod Events
 mod Followed
 mod Good
-pub mod HostTrees
-mod Kept
+pub mod Kept
 mod Legal
 mod Lines
-mod Lists
-mod Looks
-mod Pairs
-mod Passages
+pub mod Lists
+pub mod Looks
+pub mod Pairs
+pub mod Passages
 mod Rows
 pub mod LineWords
 pub mod Words
@@ -28,7 +27,7 @@ pub mod StepsBack
 pub mod RecordsBack
 pub mod JournalBack
 pub mod LegalTold
-mod Runs
-mod Surfaces
-mod Turns
+pub mod Runs
+pub mod Surfaces
+pub mod Turns
 mod States

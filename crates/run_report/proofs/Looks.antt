@@ -7,7 +7,8 @@ use Rattle.tree_revision.specs.Script.{PlainStep}
 use Rattle.tree_revision.specs.Mountable.{mountable_of}
 use Rattle.tree_revision.specs.declared.record.Answer.{Answer}
 use Rattle.run_report.specs.declared.journal.StepPart.{StepPart}
-use Rattle.run_report.specs.Points.{first_mountable, point_left, point_before, held_after, number_held, mounted_after, number_mounted}
+use Rattle.run_report.specs.Points.{first_mountable, point_left, point_before, held_after, number_held, mounted_after}
+use Rattle.run_report.specs.Shorthands.{number_mounted}
 use Rattle.run_report.specs.Legal.{TakenStep, taken_after, record_at, Answers}
 use Rattle.run_report.proofs.Lists.{slice_get_at, find_first}
 

@@ -8,7 +8,8 @@ use Rattle.tree_revision.specs.Sound.{is_name}
 use Rattle.run_report.specs.declared.journal.StepName.{StepName}
 use Rattle.run_report.specs.Journal.{PlainMount, PlainActorPart}
 use Rattle.run_report.specs.Named.{IsByActor}
-use Rattle.run_report.specs.Text.{name_at, by_text, mount_head, mutation_text, mutations_text, mount_text, placed_text, last_text, transactions_text}
+use Rattle.run_report.specs.Text.{name_at, by_text, mutation_text, mount_text, placed_text}
+use Rattle.run_report.specs.TextParts.{mount_head, mutations_text, last_text, transactions_text}
 use Rattle.run_report.specs.Ranges.{IsMutationInRange, IsMountInRange, IsPlacedInRange, IsCallInRange}
 use Rattle.run_report.proofs.LineWords.{IsWord, ends, other_word, line_off}
 use Rattle.run_report.proofs.Words.{decimal_is_word}

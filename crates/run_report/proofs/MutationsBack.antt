@@ -6,7 +6,8 @@ use Rattle.std.proofs.lemmas.Fmt.{decimal_injective}
 use Rattle.shadow_kinds.specs.Words.{word_of}
 use Rattle.host_views.specs.declared.HostView.{HostView}
 use Rattle.host_views.specs.Plain.{PlainPlacedView, PlainMutation, create, delete, insert, remove, update}
-use Rattle.run_report.specs.Text.{spaced, tagged_head, tagged_text, mutation_text, placed_head, placed_text}
+use Rattle.run_report.specs.Text.{spaced, tagged_text, mutation_text, placed_text}
+use Rattle.run_report.specs.TextParts.{tagged_head, placed_head}
 use Rattle.run_report.specs.Ranges.{IsMutationInRange, IsPlacedInRange}
 use Rattle.run_report.proofs.LineWords.{IsWord, ends, other_word, line_off}
 use Rattle.run_report.proofs.Words.{decimal_is_word}

@@ -14,8 +14,9 @@ use Rattle.run_report.specs.declared.journal.StepName.{StepName}
 use Rattle.run_report.specs.declared.journal.StepPart.{StepPart}
 use Rattle.run_report.specs.Journal.{PlainActorPart}
 use Rattle.run_report.specs.Points.{number_held}
-use Rattle.run_report.specs.Mounts.{Passage, passage_of, passage_on, passages_by, passages_named, last_to}
-use Rattle.run_report.specs.Legal.{IsAnswerTo, Answers, FollowOn, answer_named, answers_before, name_of}
+use Rattle.run_report.specs.Mounts.{Passage, passage_of, passages_by, last_to}
+use Rattle.run_report.specs.Shorthands.{passage_on, passages_named, answer_named, answers_before}
+use Rattle.run_report.specs.Legal.{IsAnswerTo, Answers, FollowOn, name_of}
 use Rattle.run_report.specs.Machine.{ActorNow, actor_part_of}
 use Rattle.run_report.proofs.Lists.{slice_get-set_same, slice_get-set_other, slice_get-append_left, enumerate_from-push, flat_map_push, numbered_same, numbered_lone}
 use Rattle.run_report.proofs.Kept.{parts_of, journal_with, IsOwnRecord, IsActorOf}

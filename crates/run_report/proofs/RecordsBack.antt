@@ -8,8 +8,10 @@ use Rattle.tree_revision.specs.Records.{PlainOp, complete, state, props, resize,
 use Rattle.tree_revision.specs.Script.{PlainAct, commit, hold, mount, PlainStep, PlainScript}
 use Rattle.tree_revision.specs.Sound.{is_name}
 use Rattle.run_report.specs.Journal.{PlainActorPart, PlainSurfacePart, PlainJournal}
-use Rattle.run_report.specs.Legal.{step_named, name_of, IsOfItsStep, CommitsStandOnce}
-use Rattle.run_report.specs.Text.{name_at, spaced, number_line, op_word_of, record_text, numbered, records_text, histories_text}
+use Rattle.run_report.specs.Legal.{name_of, IsOfItsStep, CommitsStandOnce}
+use Rattle.run_report.specs.Shorthands.{step_named}
+use Rattle.run_report.specs.Text.{name_at, spaced, number_line, op_word_of, record_text, numbered}
+use Rattle.run_report.specs.TextParts.{records_text, histories_text}
 use Rattle.run_report.specs.Named.{NamesActors}
 use Rattle.run_report.specs.Ranges.{IsRecordInRange, IsPartInRange}
 use Rattle.run_report.proofs.LineWords.{IsWord, ends, ends_off, after_same}

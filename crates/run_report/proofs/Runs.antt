@@ -8,7 +8,8 @@ use Rattle.std.proofs.lemmas.List.Elements.{recursion_from_All}
 use Rattle.tree_revision.specs.Script.{PlainStep, PlainActor, PlainSurface, PlainScript}
 use Rattle.tree_revision.specs.InRange.{IsStepInRange}
 use Rattle.tree_revision.specs.Sound.{ids_of, mounts_on, HasOneMounter, IsSoundScript}
-use Rattle.run_report.specs.Machine.{SurfaceNow, ActorNow, RunNow, Moment, after_event, with_moment, turned_on, turned_by, turned, after_turn, after_turns}
+use Rattle.run_report.specs.Machine.{SurfaceNow, ActorNow, RunNow, Moment, after_event, with_moment, after_turn}
+use Rattle.run_report.specs.Shorthands.{turned_on, turned_by, turned, after_turns}
 use Rattle.run_report.proofs.Lists.{item_within, all_at, all_unmap, slice_get_at, all_weaker, all_map, all_found}
 use Rattle.run_report.proofs.Pairs.{each_set, all_zip_become}
 use Rattle.run_report.proofs.Kept.{IsSurfaceKept, IsActorOf, IsSurfaceOf, IsRunOf}

@@ -1,16 +1,17 @@
 -- A node that is shown and whose kind has a state has a view.
-use Rattle.std.proofs.Common.{◌≡◌, List, [], ◌∷◌, Bool, true, false, ◌&&◌, refl, subst, sym}
+use Rattle.std.proofs.Common.{◌≡◌, List, [], ◌∷◌, Bool, true, false, ◌&&◌}
 use Rattle.std.specs.Prelude.{filter, if◌then◌else◌}
 use Rattle.std.specs.List.{AllByRecursion}
-use Rattle.std.proofs.lemmas.Bool.{true≢false, false≢true}
+use Rattle.std.proofs.lemmas.Bool.{false≢true}
 use Rattle.prop_table.specs.Props.{PropList}
 use Rattle.shadow_kinds.specs.declared.Kind.{Kind}
 use Rattle.shadow_kinds.specs.declared.Kind.TheVariants.{View, Text, Image, Scroll, Input}
 use Rattle.shadow_kinds.specs.Traits.{has_state_of, forms_view_of}
 use Rattle.shadow_node.specs.Forest.{PlainForest}
 use Rattle.shadow_node.specs.Fields.{SettledFields}
-use Rattle.shadow_node.specs.Shown.{Descendant, descendants, is_shown}
-use Rattle.view_flatten.specs.HostTree.{has_view, host_tree_of, viewed}
+use Rattle.shadow_node.specs.Shown.{descendants, is_shown}
+use Rattle.view_flatten.specs.HostTree.{host_tree_of}
+use Rattle.view_flatten.proofs.Shorthands.{has_view}
 use Rattle.view_flatten.specs.Places.{HasItsPlace}
 use Rattle.view_flatten.proofs.Places.{each_viewed_has_place}
 

@@ -5,7 +5,8 @@ use Rattle.tree_revision.specs.Script.{PlainStep, PlainActor}
 use Rattle.run_report.specs.declared.journal.StepPart.{StepPart}
 use Rattle.run_report.specs.Journal.{PlainActorPart}
 use Rattle.run_report.specs.Legal.{Answers}
-use Rattle.run_report.specs.Text.{numbered, step_head, step_text, steps_text, answer_text, actor_line, actors_text}
+use Rattle.run_report.specs.Text.{numbered, step_text, answer_text}
+use Rattle.run_report.specs.TextParts.{step_head, steps_text, actor_line, actors_text}
 use Rattle.run_report.specs.Ranges.{IsAnswerInRange, AreAnswersInRange}
 use Rattle.run_report.proofs.LineWords.{after_same}
 use Rattle.run_report.proofs.AnswersBack.{answer_off}

@@ -9,10 +9,11 @@ use Rattle.tree_revision.specs.Sound.{is_mount, mounts_on}
 use Rattle.tree_revision.specs.declared.record.Answer.{Answer}
 use Rattle.run_report.specs.declared.journal.StepName.{StepName}
 use Rattle.run_report.specs.declared.journal.StepPart.{StepPart}
-use Rattle.run_report.specs.Points.{point_left, point_before, held_after, number_held, mounted_after, number_mounted}
-use Rattle.run_report.specs.Mounts.{Passage, passage_of, passages_by, passages_named, last_to}
-use Rattle.run_report.specs.Legal.{Answers, FollowOn, step_named}
-use Rattle.run_report.specs.Machine.{SurfaceNow, ActorNow, answered, trying}
+use Rattle.run_report.specs.Points.{point_left, point_before, held_after, number_held, mounted_after}
+use Rattle.run_report.specs.Shorthands.{number_mounted, passages_named, trying, step_named}
+use Rattle.run_report.specs.Mounts.{Passage, passage_of, passages_by, last_to}
+use Rattle.run_report.specs.Legal.{Answers, FollowOn}
+use Rattle.run_report.specs.Machine.{SurfaceNow, ActorNow, answered}
 use Rattle.run_report.proofs.Lists.{slice_get_at, all_weaker}
 use Rattle.run_report.proofs.Pairs.{Each, each_set, all_zip_length}
 use Rattle.run_report.proofs.Looks.{IsMore, number_mounted-push, number_mounted-other, taken_step}

@@ -15,7 +15,8 @@ use Rattle.tree_revision.specs.declared.record.Answer.TheVariants.{Held, Admitte
 use Rattle.run_report.specs.declared.journal.StepPart.{StepPart}
 use Rattle.run_report.specs.Points.{point_before, number_held}
 use Rattle.run_report.specs.Legal.{IsAnswerTo, cancel_for_act}
-use Rattle.run_report.specs.Machine.{SurfaceNow, ActorNow, Moment, moment, answered, trying, recorded, mounted_at, looked_with, after_commit, after_event}
+use Rattle.run_report.specs.Machine.{SurfaceNow, ActorNow, Moment, answered, looked_with, after_commit, after_event, moment}
+use Rattle.run_report.specs.Shorthands.{trying, recorded, mounted_at}
 use Rattle.run_report.proofs.Lists.{count_one_more}
 use Rattle.run_report.proofs.Looks.{is_more_take}
 use Rattle.run_report.proofs.Kept.{room_up_to, HasLooked, HasTried, IsUnderWay, IsSurfaceKept, IsActorOf}

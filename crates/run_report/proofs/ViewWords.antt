@@ -9,7 +9,8 @@ use Rattle.prop_table.specs.PairText.{is_start, pair_text_of, pairs_text_of, nam
 use Rattle.shadow_kinds.specs.declared.Kind.{Kind}
 use Rattle.shadow_kinds.specs.Words.{word_of}
 use Rattle.host_views.specs.declared.HostView.{HostView}
-use Rattle.run_report.specs.Text.{state_text, label_text, shape_text, view_line, hex_text}
+use Rattle.run_report.specs.Text.{state_text, label_text, hex_text}
+use Rattle.run_report.specs.TextParts.{shape_text, view_line}
 use Rattle.run_report.proofs.LineWords.{ends, spread, spread-append, ends_spread}
 
 -- the words of a state

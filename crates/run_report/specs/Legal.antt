@@ -1,6 +1,6 @@
 -- Legal journals: what is promised of every run, however its actors' events interleave.
-use Rattle.std.specs.Prelude.{◌≡◌, ℕ, zero, suc, ◌+◌, ◌-◌, ◌≤◌, ◌<◌, List, [], ◌∷◌, ◌++◌, length, take, map, filter, count_by, nat_eq, is_none, slice_get, Option, Some, None, option_and_then, option_map, unwrap_or}
-use Rattle.std.specs.List.{AllByRecursion, AllZip, enumerate_from, range_with_len}
+use Rattle.std.specs.Prelude.{◌≡◌, ℕ, zero, suc, ◌+◌, ◌-◌, ◌≤◌, ◌<◌, List, [], ◌∷◌, ◌++◌, length, take, map, filter, count_by, nat_eq, if◌then◌else◌, is_none, slice_get, Option, Some, None, option_and_then, option_map, unwrap_or}
+use Rattle.std.specs.List.{AllByRecursion, AllZip, fold, enumerate_from, range_with_len}
 use Rattle.shadow_frame.specs.declared.Size.{Size}
 use Rattle.host_views.specs.Registry.{PlainRegistry, MayApply, mutated, registry_of}
 use Rattle.view_mutation.specs.Mutations.{mutations_between}
@@ -16,26 +16,18 @@ use Rattle.tree_revision.specs.declared.record.Answer.TheVariants.{Held, Admitte
 use Rattle.run_report.specs.declared.journal.StepName.{StepName}
 use Rattle.run_report.specs.declared.journal.StepPart.{StepPart}
 use Rattle.run_report.specs.Journal.{PlainMount, PlainSurfacePart, PlainActorPart, PlainJournal}
-use Rattle.run_report.specs.Points.{look_point, point_before, number_held, number_mounted}
-use Rattle.run_report.specs.Mounts.{Passage, passage_in, passages_on, host_tree_at}
+use Rattle.run_report.specs.Points.{look_point, point_before, number_held, mounted_after}
+use Rattle.mount_coordinator.specs.Mounted.{host_tree_at}
+use Rattle.run_report.specs.Mounts.{Passage, passage_in, passages_on}
 
 -- a hold is answered held, a mount is answered mounted or empty, and a commit is answered admitted or cancelled
 abbrev pub IsAnswerTo : PlainAct → Answer → Type 0
-IsAnswerTo (commit op) (Held at) = ⊥
-IsAnswerTo (commit op) (Admitted number tries) = Unit {0}
-IsAnswerTo (commit op) (Cancelled at tries cause) = Unit {0}
-IsAnswerTo (commit op) (Mounted base to) = ⊥
-IsAnswerTo (commit op) (Empty at) = ⊥
 IsAnswerTo hold (Held at) = Unit {0}
-IsAnswerTo hold (Admitted number tries) = ⊥
-IsAnswerTo hold (Cancelled at tries cause) = ⊥
-IsAnswerTo hold (Mounted base to) = ⊥
-IsAnswerTo hold (Empty at) = ⊥
-IsAnswerTo mount (Held at) = ⊥
-IsAnswerTo mount (Admitted number tries) = ⊥
-IsAnswerTo mount (Cancelled at tries cause) = ⊥
 IsAnswerTo mount (Mounted base to) = Unit {0}
 IsAnswerTo mount (Empty at) = Unit {0}
+IsAnswerTo (commit op) (Admitted number tries) = Unit {0}
+IsAnswerTo (commit op) (Cancelled at tries cause) = Unit {0}
+IsAnswerTo _ _ = ⊥
 
 -- an answer stands on its step's surface and is one to what the step does
 pub record Answers (step : PlainStep) (part : StepPart) : Type 0 where
@@ -49,25 +41,20 @@ pub record HasFormOf (script : PlainScript) (journal : PlainJournal) : Type 0 wh
   pub answers : AllZip (λ actor part. AllZip Answers actor.steps part.steps) script.actors journal.actors
 
 -- a step that was taken: whose it is, what it does, what it was answered, and what its actor was answered before
-pub record TakenStep : Type 0 where
-  pub name : StepName
-  pub step : PlainStep
-  pub answer : Answer
-  pub earlier : List StepPart
+abbrev pub TakenStep : Type 0
+TakenStep = record { name : StepName; step : PlainStep; answer : Answer; earlier : List StepPart }
 
 -- the steps of an actor after some earlier ones, with their answers
 abbrev pub taken_after : (actor : ℕ) → (earlier : List StepPart) → List PlainStep → List StepPart → List TakenStep
-taken_after actor earlier [] parts = []
-taken_after actor earlier (step ∷ steps) [] = []
 taken_after actor earlier (step ∷ steps) (part ∷ parts) =
     record { name = record { actor = actor; call = length earlier }; step = step; answer = part.answer; earlier = earlier }
     ∷ taken_after actor (earlier ++ part ∷ []) steps parts
+taken_after _ _ _ _ = []
 
 -- the steps of all actors from that number on
 abbrev pub taken_from : (actor : ℕ) → List PlainActor → List PlainActorPart → List TakenStep
-taken_from number [] parts = []
-taken_from number (actor ∷ actors) [] = []
 taken_from number (actor ∷ actors) (part ∷ parts) = taken_after number [] actor.steps part.steps ++ taken_from (number + 1) actors parts
+taken_from _ _ _ = []
 
 -- the steps that were taken on the surface of that id
 abbrev pub taken_on : PlainScript → PlainJournal → (id : ℕ) → List TakenStep
@@ -78,31 +65,21 @@ abbrev pub record_at : List PlainRecord → ℕ → Option PlainRecord
 record_at entries zero = None
 record_at entries (suc number) = slice_get entries number
 
--- the step of a name
-abbrev pub step_named : PlainScript → StepName → Option PlainStep
-step_named script name = option_and_then (λ actor. slice_get actor.steps name.call) (slice_get script.actors name.actor)
-
--- the answer of a name
-abbrev pub answer_named : PlainJournal → StepName → Option StepPart
-answer_named journal name = option_and_then (λ actor. slice_get actor.steps name.call) (slice_get journal.actors name.actor)
-
 -- whose a record is
 abbrev pub name_of : PlainRecord → StepName
 name_of entry = record { actor = entry.actor; call = entry.call }
 
 -- record n names a commit on this surface and has its change, and that step was answered admitted n
 pub record IsOfItsStep (script : PlainScript) (journal : PlainJournal) (id number : ℕ) (entry : PlainRecord) : Type 0 where
-  pub step : step_named script (name_of entry) ≡ Some (record { surface = id; act = commit entry.op })
+  pub step : option_and_then (λ actor. slice_get actor.steps entry.call) (slice_get script.actors entry.actor) ≡ Some (record { surface = id; act = commit entry.op })
   pub tries : ℕ
-  pub answer : answer_named journal (name_of entry) ≡ Some (record { surface = id; answer = Admitted number tries })
+  pub answer :
+      option_and_then (λ actor. slice_get actor.steps entry.call) (slice_get journal.actors entry.actor) ≡ Some (record { surface = id; answer = Admitted number tries })
 
 -- where a step was admitted, the record of that number is its own
 abbrev pub HasItsRecord : List PlainRecord → TakenStep → Answer → Type 0
-HasItsRecord entries taken (Held at) = Unit {0}
 HasItsRecord entries taken (Admitted number tries) = option_map name_of (record_at entries number) ≡ Some taken.name
-HasItsRecord entries taken (Cancelled at tries cause) = Unit {0}
-HasItsRecord entries taken (Mounted base to) = Unit {0}
-HasItsRecord entries taken (Empty at) = Unit {0}
+HasItsRecord entries taken _ = Unit {0}
 
 -- each admitted commit stands once: each record is of the step that was admitted at its number, and each admitted step has its record
 pub record CommitsStandOnce (script : PlainScript) (journal : PlainJournal) (id : ℕ) (entries : List PlainRecord) : Type 0 where
@@ -112,44 +89,34 @@ pub record CommitsStandOnce (script : PlainScript) (journal : PlainJournal) (id 
 -- why a step that does that would be cancelled after the first records, by an actor that holds that revision; only a commit is cancelled
 abbrev pub cancel_for_act : Size → List PlainRecord → (held : ℕ) → PlainAct → (number : ℕ) → Option Cancel
 cancel_for_act first entries held (commit op) number = cancel_of first op (take number entries) held
-cancel_for_act first entries held hold number = None
-cancel_for_act first entries held mount number = None
+cancel_for_act first entries held _ number = None
 
 -- a cancelled step has its cause where it looked
 abbrev pub HasCause : Size → (id : ℕ) → List PlainRecord → TakenStep → Answer → Type 0
-HasCause first id entries taken (Held at) = Unit {0}
-HasCause first id entries taken (Admitted number tries) = Unit {0}
 HasCause first id entries taken (Cancelled at tries cause) = cancel_for_act first entries (number_held id taken.earlier) taken.step.act at ≡ Some cause
-HasCause first id entries taken (Mounted base to) = Unit {0}
-HasCause first id entries taken (Empty at) = Unit {0}
+HasCause first id entries taken _ = Unit {0}
 
 -- a step looks at no less than its actor had seen before, and at no more than there is
 pub record LooksForward (id : ℕ) (entries : List PlainRecord) (taken : TakenStep) : Type 0 where
   pub after : point_before id entries taken.earlier ≤ look_point entries (point_before id entries taken.earlier) taken.answer
   pub within : look_point entries (point_before id entries taken.earlier) taken.answer ≤ length entries
 
--- what an actor was answered before a step
-abbrev pub answers_before : PlainJournal → StepName → List StepPart
-answers_before journal name = unwrap_or (option_map (λ actor. take name.call actor.steps) (slice_get journal.actors name.actor)) []
-
--- a record's held number is what its actor holds at that step
+-- a record's held number is what its actor holds at that step, after what it was answered before
 abbrev pub IsTrulyHeld : PlainJournal → (id : ℕ) → PlainRecord → Type 0
-IsTrulyHeld journal id entry = entry.held ≡ number_held id (answers_before journal (name_of entry))
+IsTrulyHeld journal id entry =
+    entry.held ≡ number_held id (unwrap_or (option_map (λ actor. take entry.call actor.steps) (slice_get journal.actors entry.actor)) [])
 
 -- passages follow on one another: each begins where the one before it led to, and leads forward
 abbrev pub FollowOn : (base : ℕ) → List Passage → Type 0
 FollowOn base [] = Unit {0}
 FollowOn base (step ∷ steps) = (step.base ≡ base) × (step.base < step.to) × FollowOn step.to steps
 
--- an empty mount names the revision that stands mounted
+-- an empty mount names the revision that stands mounted: the one that its actor's earlier answers left mounted on the surface of that id
 abbrev pub IsEmptyAt : (id : ℕ) → TakenStep → Answer → Type 0
-IsEmptyAt id taken (Held at) = Unit {0}
-IsEmptyAt id taken (Admitted number tries) = Unit {0}
-IsEmptyAt id taken (Cancelled at tries cause) = Unit {0}
-IsEmptyAt id taken (Mounted base to) = Unit {0}
-IsEmptyAt id taken (Empty at) = at ≡ number_mounted id taken.earlier
+IsEmptyAt id taken (Empty at) = at ≡ fold (λ base part. if nat_eq part.surface id then mounted_after part.answer base else base) 0 taken.earlier
+IsEmptyAt id taken _ = Unit {0}
 
--- the mounts are those that the steps were answered, and a closing one exactly where the last does not lead to what may be mounted; they follow on one another, from number 0 on
+-- the mounts are those that the steps were answered, and a closing one exactly where the last does not lead to what may be mounted; they follow on one another from 0 on
 pub record MountsFollowOn (script : PlainScript) (journal : PlainJournal) (part : PlainSurfacePart) : Type 0 where
   pub passages : map passage_in part.mounts ≡ passages_on part.id part.records journal.actors
   pub forward : FollowOn 0 (map passage_in part.mounts)
@@ -158,21 +125,17 @@ pub record MountsFollowOn (script : PlainScript) (journal : PlainJournal) (part 
 -- how many numbers, from what was left before up to the look, have no cause for a step
 abbrev pub room_for_tries : Size → (id : ℕ) → List PlainRecord → TakenStep → ℕ
 room_for_tries first id entries taken =
+    let before = point_before id entries taken.earlier in
     count_by (λ number. is_none (cancel_for_act first entries (number_held id taken.earlier) taken.step.act number))
-    (range_with_len (point_before id entries taken.earlier) (look_point entries (point_before id entries taken.earlier) taken.answer - point_before id entries taken.earlier))
+    (range_with_len before (look_point entries before taken.answer - before))
 
 -- a commit was tried once at least, and each earlier try has a number of its own at which it had no cause
-abbrev pub HaveRoom : (tries room : ℕ) → Type 0
-HaveRoom tries room = (1 ≤ tries) × (tries ≤ room + 1)
-
 abbrev pub TriesHaveRoom : Size → (id : ℕ) → List PlainRecord → TakenStep → Answer → Type 0
-TriesHaveRoom first id entries taken (Held at) = Unit {0}
-TriesHaveRoom first id entries taken (Admitted number tries) = HaveRoom tries (room_for_tries first id entries taken)
-TriesHaveRoom first id entries taken (Cancelled at tries cause) = HaveRoom tries (room_for_tries first id entries taken)
-TriesHaveRoom first id entries taken (Mounted base to) = Unit {0}
-TriesHaveRoom first id entries taken (Empty at) = Unit {0}
+TriesHaveRoom first id entries taken (Admitted number tries) = (1 ≤ tries) × (tries ≤ room_for_tries first id entries taken + 1)
+TriesHaveRoom first id entries taken (Cancelled at tries cause) = (1 ≤ tries) × (tries ≤ room_for_tries first id entries taken + 1)
+TriesHaveRoom first id entries taken _ = Unit {0}
 
--- a mount on these host views: its mutations lead from the one host tree to the other, each may be applied in its turn, and then the views are the host tree of the revision that it names
+-- a mount on these host views: its mutations are those between the two host trees, each may be applied in its turn, and then the views are the tree that it leads to
 pub record IsMountOn (first : Size) (entries : List PlainRecord) (views : PlainRegistry) (done : PlainMount) : Type 0 where
   pub mutations : done.mutations ≡ mutations_between (host_tree_at first entries done.base) (host_tree_at first entries done.to)
   pub applied : MayApply done.mutations views

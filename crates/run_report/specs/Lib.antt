@@ -6,5 +6,7 @@ pub mod Machine
 pub mod Pieces
 pub mod Named
 pub mod Text
+pub mod TextParts
 pub mod Ranges
 pub mod Readable
+pub mod Shorthands

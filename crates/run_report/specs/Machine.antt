@@ -1,9 +1,9 @@
 -- The machine of turns: a run in which each turn is one event of one actor.
-use Rattle.std.specs.Prelude.{ℕ, ◌+◌, ◌*◌, List, [], ◌∷◌, ◌++◌, length, map, replicate, nat_eq, if◌then◌else◌, slice_get, slice_set, Option, Some, None}
+use Rattle.std.specs.Prelude.{ℕ, ◌+◌, ◌*◌, List, [], ◌∷◌, ◌++◌, length, map, drop, replicate, nat_eq, if◌then◌else◌, slice_get, slice_set, Option, Some, None, unwrap_or, option_and_then, option_map}
 use Rattle.std.specs.List.{find, fold, flat_map, enumerate_from}
 use Rattle.shadow_frame.specs.declared.Size.{Size}
 use Rattle.tree_revision.specs.Records.{PlainOp, PlainRecord}
-use Rattle.tree_revision.specs.Script.{PlainAct, commit, hold, mount, PlainStep, PlainActor, PlainSurface, PlainScript}
+use Rattle.tree_revision.specs.Script.{PlainAct, commit, hold, mount, PlainStep, PlainActor, PlainScript}
 use Rattle.tree_revision.specs.Cancels.{cancel_of}
 use Rattle.tree_revision.specs.Mountable.{mountable_of}
 use Rattle.tree_revision.specs.declared.record.Cancel.{Cancel}
@@ -12,146 +12,84 @@ use Rattle.tree_revision.specs.declared.record.Answer.TheVariants.{Held, Admitte
 use Rattle.run_report.specs.declared.journal.StepPart.{StepPart}
 use Rattle.run_report.specs.Journal.{PlainSurfacePart, PlainActorPart, PlainJournal}
 use Rattle.run_report.specs.Points.{number_held}
-use Rattle.run_report.specs.Mounts.{passages_on, mount_along, host_tree_at}
+use Rattle.mount_coordinator.specs.Mounted.{host_tree_at}
+use Rattle.run_report.specs.Mounts.{passages_on, mount_along}
 
 -- a surface in a run: its id and its first size, its admitted commits, and the number of the revision that stands mounted
-pub record SurfaceNow : Type 0 where
-  pub id : ℕ
-  pub first : Size
-  pub records : List PlainRecord
-  pub base : ℕ
+abbrev pub SurfaceNow : Type 0
+SurfaceNow = record { id : ℕ; first : Size; records : List PlainRecord; base : ℕ }
 
--- an actor in a run: its name, the steps that are left, the answers so far, and of a commit that is under way its tries and the number at which it looked, where it has looked
-pub record ActorNow : Type 0 where
-  pub name : List ℕ
-  pub left : List PlainStep
-  pub answers : List StepPart
-  pub tries : ℕ
-  pub looked : Option ℕ
+-- an actor in a run: its name, the steps left, the answers so far, and of a commit under way its tries and the number at which it looked, where it has looked
+abbrev pub ActorNow : Type 0
+ActorNow = record { name : List ℕ; left : List PlainStep; answers : List StepPart; tries : ℕ; looked : Option ℕ }
 
 -- a run: its surfaces and its actors
-pub record RunNow : Type 0 where
-  pub surfaces : List SurfaceNow
-  pub actors : List ActorNow
+abbrev pub RunNow : Type 0
+RunNow = record { surfaces : List SurfaceNow; actors : List ActorNow }
 
 -- a surface and an actor after an event
-pub record Moment : Type 0 where
-  pub surface : SurfaceNow
-  pub actor : ActorNow
+abbrev pub Moment : Type 0
+Moment = record { surface : SurfaceNow; actor : ActorNow }
 
 abbrev pub moment : SurfaceNow → ActorNow → Moment
 moment surface actor = record { surface = surface; actor = actor }
 
--- the steps after the first
-abbrev pub later : List PlainStep → List PlainStep
-later [] = []
-later (step ∷ steps) = steps
-
 -- an actor whose step ended with that answer, on the surface of that id
 abbrev pub answered : (id : ℕ) → Answer → ActorNow → ActorNow
-answered id answer actor = record {
-  name = actor.name;
-  left = later actor.left;
-  answers = actor.answers ++ (record { surface = id; answer = answer }) ∷ [];
-  tries = 0;
-  looked = None;
-}
-
--- an actor whose commit was tried that often, and has looked at that number, or is to look again
-abbrev pub trying : (tries : ℕ) → (looked : Option ℕ) → ActorNow → ActorNow
-trying tries looked actor = record { name = actor.name; left = actor.left; answers = actor.answers; tries = tries; looked = looked }
-
--- a surface with one more commit
-abbrev pub recorded : PlainRecord → SurfaceNow → SurfaceNow
-recorded entry surface = record { id = surface.id; first = surface.first; records = surface.records ++ entry ∷ []; base = surface.base }
-
--- a surface at which another revision stands mounted
-abbrev pub mounted_at : ℕ → SurfaceNow → SurfaceNow
-mounted_at number surface = record { id = surface.id; first = surface.first; records = surface.records; base = number }
-
--- a hold: the newest revision is held
-abbrev pub after_hold : SurfaceNow → ActorNow → Moment
-after_hold surface actor = moment surface (answered surface.id (Held (length surface.records)) actor)
+answered id answer actor =
+    record actor { left = drop 1 actor.left; answers = actor.answers ++ (record { surface = id; answer = answer }) ∷ []; tries = 0; looked = None }
 
 -- a mount: empty where the revision that may be mounted stands mounted, and else it is mounted
 abbrev pub after_mount : SurfaceNow → ActorNow → Moment
 after_mount surface actor =
-    if nat_eq (mountable_of surface.records) surface.base
-    then moment surface (answered surface.id (Empty surface.base) actor)
-    else
-    moment (mounted_at (mountable_of surface.records) surface)
-    (answered surface.id (Mounted surface.base (mountable_of surface.records)) actor)
+    if nat_eq (mountable_of surface.records) surface.base then moment surface (answered surface.id (Empty surface.base) actor)
+    else moment (record surface { base = mountable_of surface.records }) (answered surface.id (Mounted surface.base (mountable_of surface.records)) actor)
 
 -- a look that found a cause ends the step, and one that found none leaves the number that it looked at
 abbrev pub looked_with : Option Cancel → SurfaceNow → ActorNow → ActorNow
-looked_with None surface actor = trying (actor.tries + 1) (Some (length surface.records)) actor
+looked_with None surface actor = record actor { tries = actor.tries + 1; looked = Some (length surface.records) }
 looked_with (Some cause) surface actor = answered surface.id (Cancelled (length surface.records) (actor.tries + 1) cause) actor
 
 -- a look of a commit: one more try
 abbrev pub after_look : PlainOp → SurfaceNow → ActorNow → Moment
-after_look op surface actor =
-    moment surface (looked_with (cancel_of surface.first op surface.records (number_held surface.id actor.answers)) surface actor)
+after_look op surface actor = moment surface (looked_with (cancel_of surface.first op surface.records (number_held surface.id actor.answers)) surface actor)
 
 -- an offer of a commit that looked at that number: it is admitted where nothing newer came, and else the commit is to look again
 abbrev pub after_offer : (number : ℕ) → PlainOp → (at : ℕ) → SurfaceNow → ActorNow → Moment
 after_offer number op at surface actor =
+    let entry : PlainRecord = record { actor = number; call = length actor.answers; held = number_held surface.id actor.answers; op = op } in
     if nat_eq at (length surface.records)
-    then
-    moment (recorded (record { actor = number; call = length actor.answers; held = number_held surface.id actor.answers; op = op }) surface)
-    (answered surface.id (Admitted (length surface.records + 1) actor.tries) actor)
-    else moment surface (trying actor.tries None actor)
+    then moment (record surface { records = surface.records ++ entry ∷ [] }) (answered surface.id (Admitted (length surface.records + 1) actor.tries) actor)
+    else moment surface (record actor { looked = None })
 
 -- an event of a commit: a look, or an offer where it has looked
 abbrev pub after_commit : (number : ℕ) → PlainOp → Option ℕ → SurfaceNow → ActorNow → Moment
 after_commit number op None surface actor = after_look op surface actor
 after_commit number op (Some at) surface actor = after_offer number op at surface actor
 
--- an event of the actor of that number, whose step does that
+-- an event of the actor of that number, whose step does that; a hold holds the newest revision
 abbrev pub after_event : (number : ℕ) → PlainAct → SurfaceNow → ActorNow → Moment
 after_event number (commit op) surface actor = after_commit number op actor.looked surface actor
-after_event number hold surface actor = after_hold surface actor
+after_event number hold surface actor = moment surface (answered surface.id (Held (length surface.records)) actor)
 after_event number mount surface actor = after_mount surface actor
 
 -- a run with that surface and that actor in their places
 abbrev pub with_moment : RunNow → (number : ℕ) → Moment → RunNow
-with_moment run number now = record {
-  surfaces = map (λ surface. if nat_eq surface.id now.surface.id then now.surface else surface) run.surfaces;
-  actors = slice_set run.actors number now.actor;
-}
+with_moment run number now =
+    record { surfaces = map (λ surface. if nat_eq surface.id now.surface.id then now.surface else surface) run.surfaces; actors = slice_set run.actors number now.actor }
 
--- an event on the surface that was found
-abbrev pub turned_on : RunNow → (number : ℕ) → ActorNow → PlainAct → Option SurfaceNow → RunNow
-turned_on run number actor act None = run
-turned_on run number actor act (Some surface) = with_moment run number (after_event number act surface actor)
-
--- an event of an actor with these steps left; where none is left, nothing
-abbrev pub turned_by : RunNow → (number : ℕ) → ActorNow → List PlainStep → RunNow
-turned_by run number actor [] = run
-turned_by run number actor (step ∷ steps) = turned_on run number actor step.act (find (λ surface. nat_eq surface.id step.surface) run.surfaces)
-
-abbrev pub turned : RunNow → (number : ℕ) → Option ActorNow → RunNow
-turned run number None = run
-turned run number (Some actor) = turned_by run number actor actor.left
-
--- a run after one turn: one event of the actor of that number
+-- a run after one turn: one event of the actor of that number, on the surface of the first step that it has left; where none is left, nothing
 abbrev pub after_turn : RunNow → (number : ℕ) → RunNow
-after_turn run number = turned run number (slice_get run.actors number)
+after_turn run number =
+    unwrap_or (option_and_then (λ actor. option_and_then (λ step. option_map (λ surface. with_moment run number (after_event number step.act surface actor))
+    (find (λ surface. nat_eq surface.id step.surface) run.surfaces)) (slice_get actor.left 0)) (slice_get run.actors number)) run
 
--- a run after some turns
-abbrev pub after_turns : RunNow → List ℕ → RunNow
-after_turns run turns = fold after_turn run turns
-
--- a surface before the first turn
-abbrev pub opened : PlainSurface → SurfaceNow
-opened surface = record { id = surface.id; first = surface.size; records = []; base = 0 }
-
--- an actor before its first step
-abbrev pub begun : PlainActor → ActorNow
-begun actor = record { name = actor.name; left = actor.steps; answers = []; tries = 0; looked = None }
-
--- a run before the first turn
+-- a run before the first turn: no surface has a commit, and no actor an answer
 abbrev pub run_of : PlainScript → RunNow
-run_of script = record { surfaces = map opened script.surfaces; actors = map begun script.actors }
+run_of script = record {
+  surfaces = map (λ surface. record { id = surface.id; first = surface.size; records = []; base = 0 }) script.surfaces;
+  actors = map (λ actor. record { name = actor.name; left = actor.steps; answers = []; tries = 0; looked = None }) script.actors;
+}
 
 -- turns that take each actor in its order to its end: alone, a step has three events at most, an offer that comes too late, a look, and an offer
 abbrev pub ending_turns : List PlainActor → List ℕ
@@ -163,20 +101,14 @@ actor_part_of actor = record { name = actor.name; steps = actor.answers }
 
 -- a surface's part of the journal: its commits, its mounts along the passages that the answers name, and the last views
 abbrev pub surface_part_of : List PlainActorPart → SurfaceNow → PlainSurfacePart
-surface_part_of actors surface = record {
-  id = surface.id;
-  records = surface.records;
-  mounts = map (mount_along surface.first surface.records) (passages_on surface.id surface.records actors);
-  last = host_tree_at surface.first surface.records (mountable_of surface.records);
-}
+surface_part_of actors surface =
+    let mounts = map (mount_along surface.first surface.records) (passages_on surface.id surface.records actors) in
+    record { id = surface.id; records = surface.records; mounts = mounts; last = host_tree_at surface.first surface.records (mountable_of surface.records) }
 
 -- the journal of a run that has come to its end
 abbrev pub journal_at_end : RunNow → PlainJournal
-journal_at_end run = record {
-  surfaces = map (surface_part_of (map actor_part_of run.actors)) run.surfaces;
-  actors = map actor_part_of run.actors;
-}
+journal_at_end run = record { surfaces = map (surface_part_of (map actor_part_of run.actors)) run.surfaces; actors = map actor_part_of run.actors }
 
 -- the journal of a script: its turns, and then each actor to its end
 abbrev pub journal_of_turns : PlainScript → PlainJournal
-journal_of_turns script = journal_at_end (after_turns (run_of script) (script.turns ++ ending_turns script.actors))
+journal_of_turns script = journal_at_end (fold after_turn (run_of script) (script.turns ++ ending_turns script.actors))

@@ -1,26 +1,17 @@
 -- Whether a journal names only actors that it has.
-use Rattle.std.specs.Prelude.{ℕ, ◌<◌, List, length, All, Option, Some, None}
-use Rattle.tree_revision.specs.Records.{PlainRecord}
+use Rattle.std.specs.Prelude.{ℕ, ◌<◌, length, All, Option, Some, None}
 use Rattle.run_report.specs.declared.journal.StepName.{StepName}
-use Rattle.run_report.specs.Journal.{PlainMount, PlainSurfacePart, PlainJournal}
-
--- each record is of an actor whose number is below the count
-abbrev pub AreByActors : ℕ → List PlainRecord → Type 0
-AreByActors count entries = All (λ entry. entry.actor < count) entries
+use Rattle.run_report.specs.Journal.{PlainSurfacePart, PlainJournal}
 
 -- a mount is closing, or by a step of an actor whose number is below the count
 abbrev pub IsByActor : ℕ → Option StepName → Type 0
 IsByActor count None = Unit {0}
 IsByActor count (Some step) = step.actor < count
 
--- so is each mount
-abbrev pub AreMountedByActors : ℕ → List PlainMount → Type 0
-AreMountedByActors count mounts = All (λ mount. IsByActor count mount.by) mounts
-
 -- the records and mounts of a surface are of actors whose numbers are below the count
 pub record NamesActors (count : ℕ) (part : PlainSurfacePart) : Type 0 where
-  pub records : AreByActors count part.records
-  pub mounts : AreMountedByActors count part.mounts
+  pub records : All (λ entry. entry.actor < count) part.records
+  pub mounts : All (λ mount. IsByActor count mount.by) part.mounts
 
 -- each actor that the journal names is one of its own
 abbrev pub NamesItsActors : PlainJournal → Type 0

@@ -22,11 +22,8 @@ look_point entries before (Empty at) = first_mountable entries before at
 
 -- the number of records that an answer leaves: its own where a commit was admitted, and else what it looked at
 abbrev pub point_left : List PlainRecord → (before : ℕ) → Answer → ℕ
-point_left entries before (Held at) = at
 point_left entries before (Admitted number tries) = number
-point_left entries before (Cancelled at tries cause) = at
-point_left entries before (Mounted base to) = first_mountable entries before to
-point_left entries before (Empty at) = first_mountable entries before at
+point_left entries before answer = look_point entries before answer
 
 -- what the earlier answers of an actor leave on the surface of that id, which has those records
 abbrev pub point_before : (id : ℕ) → List PlainRecord → (earlier : List StepPart) → ℕ
@@ -37,9 +34,7 @@ point_before id entries earlier =
 abbrev pub held_after : Answer → (held : ℕ) → ℕ
 held_after (Held at) held = at
 held_after (Admitted number tries) held = number
-held_after (Cancelled at tries cause) held = held
-held_after (Mounted base to) held = held
-held_after (Empty at) held = held
+held_after _ held = held
 
 -- the number of the revision that an actor holds on the surface of that id, after its earlier answers
 abbrev pub number_held : (id : ℕ) → (earlier : List StepPart) → ℕ
@@ -47,12 +42,5 @@ number_held id earlier = fold (λ held part. if nat_eq part.surface id then held
 
 -- the revision that stands mounted after an answer
 abbrev pub mounted_after : Answer → (base : ℕ) → ℕ
-mounted_after (Held at) base = base
-mounted_after (Admitted number tries) base = base
-mounted_after (Cancelled at tries cause) base = base
 mounted_after (Mounted was to) base = to
-mounted_after (Empty at) base = base
-
--- the number of the revision that an actor's earlier answers left mounted on the surface of that id
-abbrev pub number_mounted : (id : ℕ) → (earlier : List StepPart) → ℕ
-number_mounted id earlier = fold (λ base part. if nat_eq part.surface id then mounted_after part.answer base else base) 0 earlier
+mounted_after _ base = base

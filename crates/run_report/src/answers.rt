@@ -3,7 +3,8 @@
 ghost use Rattle.std.specs.Prelude.{◌+◌, ◌++◌, map};
 ghost use Rattle.byte_ports.specs.Sinks.{Writes};
 ghost use Rattle.run_report.specs.Journal.{plain_actor_part};
-ghost use Rattle.run_report.specs.Text.{cause_text, answer_text, cancelled_head, step_head, step_text, steps_text, actor_line, actor_text, actors_text};
+ghost use Rattle.run_report.specs.Text.{cause_text, answer_text, step_text, actor_text};
+ghost use Rattle.run_report.specs.TextParts.{cancelled_head, step_head, steps_text, actor_line, actors_text};
 
 use crate::journal::{ActorPart, StepPart};
 use crate::pieces::{Piece, write_number_line, write_pair_line, write_pieces, write_tag_line};

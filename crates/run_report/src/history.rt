@@ -4,8 +4,9 @@ ghost use Rattle.std.specs.Prelude.{◌≡◌, ◌<◌, map, length, All};
 ghost use Rattle.byte_ports.specs.Sinks.{Writes};
 ghost use Rattle.tree_revision.specs.Records.{plain_op, plain_record};
 ghost use Rattle.run_report.specs.Journal.{plain_actor_part, plain_surface_part};
-ghost use Rattle.run_report.specs.Named.{AreByActors, NamesActors};
-ghost use Rattle.run_report.specs.Text.{op_word_of, name_at, record_text, records_text, history_text, histories_text};
+ghost use Rattle.run_report.specs.Named.{NamesActors};
+ghost use Rattle.run_report.specs.TextParts.{AreByActors, records_text, histories_text};
+ghost use Rattle.run_report.specs.Text.{op_word_of, name_at, record_text, history_text};
 
 use crate::journal::{ActorPart, SurfacePart};
 use crate::pieces::{Piece, write_pieces, write_tag_line};

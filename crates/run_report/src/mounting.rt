@@ -1,31 +1,13 @@
-//! Laws of mounting: the host trees of a history.
+//! A law of mounting: which views a forest has at least.
 
-ghost use Rattle.std.specs.Prelude.{◌≡◌, List, ◌++◌, true};
+ghost use Rattle.std.specs.Prelude.{◌≡◌, true};
 ghost use Rattle.std.specs.List.{AllByRecursion};
 ghost use Rattle.shadow_kinds.specs.Traits.{has_state_of};
 ghost use Rattle.shadow_node.specs.Forest.{PlainForest};
 ghost use Rattle.shadow_node.specs.Fields.{SettledFields};
 ghost use Rattle.shadow_node.specs.Shown.{descendants, is_shown};
 ghost use Rattle.view_flatten.specs.Places.{HasItsPlace};
-ghost use Rattle.shadow_frame.specs.declared.Size.{Size};
-ghost use Rattle.host_views.specs.HostTree.{IsHostTree};
 ghost use Rattle.view_flatten.specs.HostTree.{host_tree_of};
-ghost use Rattle.view_mutation.specs.Leads.{LeadOn};
-ghost use Rattle.tree_revision.specs.Records.{PlainRecord};
-ghost use Rattle.tree_revision.specs.History.{settled_of};
-ghost use Rattle.tree_revision.specs.Lawful.{IsLawful};
-
-/// For every lawful history, its flattening is a host tree.
-pub fn lawful_histories_have_host_trees()
-    ensures { (first : Size) (entries : List PlainRecord) → IsLawful first entries → IsHostTree (host_tree_of (settled_of first entries)) }
-{}
-
-/// For every lawful history and each of its fronts: each mutation from the host tree of the front to that of the whole
-/// may be applied in its turn, and all of them, applied to the registry of the one, give the registry of the other.
-pub fn lawful_histories_lead_on()
-    ensures { (first : Size) (entries more : List PlainRecord) → IsLawful first (entries ++ more)
-        → LeadOn (host_tree_of (settled_of first entries)) (host_tree_of (settled_of first (entries ++ more))) }
-{}
 
 /// For every forest, as each revision of a history has one: each mounted node that is shown and whose kind has a state
 /// has its place in the host tree, with its view.

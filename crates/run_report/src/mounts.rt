@@ -4,8 +4,9 @@ ghost use Rattle.std.specs.Prelude.{◌+◌, ◌<◌, map, length, All};
 ghost use Rattle.byte_ports.specs.Sinks.{Writes};
 ghost use Rattle.host_views.specs.Plain.{plain_mutation, plain_placed};
 ghost use Rattle.run_report.specs.Journal.{plain_actor_part, plain_mount, plain_surface_part};
-ghost use Rattle.run_report.specs.Named.{IsByActor, AreMountedByActors, NamesActors};
-ghost use Rattle.run_report.specs.Text.{tagged_head, tagged_text, mutation_text, mutations_text, mount_head, by_text, mount_text, transactions_text, placed_head, placed_text, last_text, mounts_text, all_mounts_text};
+ghost use Rattle.run_report.specs.Named.{IsByActor, NamesActors};
+ghost use Rattle.run_report.specs.TextParts.{AreMountedByActors, tagged_head, mutations_text, mount_head, transactions_text, placed_head, last_text, all_mounts_text};
+ghost use Rattle.run_report.specs.Text.{tagged_text, mutation_text, by_text, mount_text, placed_text, mounts_text};
 
 use crate::history::name_of;
 use crate::journal::{ActorPart, MountPart, StepName, SurfacePart};

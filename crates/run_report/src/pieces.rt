@@ -2,7 +2,8 @@
 
 ghost use Rattle.byte_ports.specs.Sinks.{Writes};
 ghost use Rattle.run_report.specs.Pieces.{piece_text, text_of};
-ghost use Rattle.run_report.specs.Text.{number_line, pair_line, triple_line};
+ghost use Rattle.run_report.specs.Text.{number_line};
+ghost use Rattle.run_report.specs.TextParts.{pair_line, triple_line};
 
 use byte_ports::{Failed, Sink, write_whole};
 use itoa::{Buffer, Integer};

@@ -6,7 +6,8 @@ ghost use Rattle.prop_table.specs.Props.{value_at};
 ghost use Rattle.prop_table.specs.Rules.{rules_of, rule_at};
 ghost use Rattle.prop_table.specs.Table.{v2_rules};
 ghost use Rattle.prop_table.specs.PairText.{pair_text_of, pairs_text_of};
-ghost use Rattle.run_report.specs.Text.{shape_text, state_text, hex_digit, hex_pair, hex_text, label_text, view_text, view_line};
+ghost use Rattle.run_report.specs.Text.{state_text, hex_digit, hex_text, label_text, view_text};
+ghost use Rattle.run_report.specs.TextParts.{shape_text, hex_pair, view_line};
 
 use crate::pieces::{Piece, write_pieces};
 use byte_ports::{Failed, Sink, write_whole};

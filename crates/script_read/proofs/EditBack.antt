@@ -1,5 +1,5 @@
 -- What was written of an edit reads back, and has no fault.
-use Rattle.std.proofs.Common.{◌≡◌, ℕ, zero, suc, ◌+◌, ◌<◌, ◌≤◌, ◌^◌, List, [], ◌∷◌, ◌++◌, map, length, take, drop, replicate, Bool, true, false, ◌&&◌, nat_le, nat_lt, nat_eq, int_le, Option, Some, None, is_some, is_none, IsNone, IfSome, option_map, option_and_then, unwrap_or, count_by, cond, codes, ℤ, pos, negsuc, ◌≤ℤ◌, ◌<ℤ◌, if◌then◌else◌, lt-ltb, le-leb, refl, ap, sym, subst, ◌∙◌, arith}
+use Rattle.std.proofs.Common.{◌≡◌, ℕ, zero, suc, ◌+◌, ◌<◌, ◌≤◌, ◌^◌, List, [], ◌∷◌, ◌++◌, map, length, drop, replicate, Bool, true, false, nat_eq, int_le, Option, Some, None, is_some, is_none, IsNone, option_map, option_and_then, unwrap_or, cond, codes, ℤ, pos, negsuc, ◌≤ℤ◌, ◌<ℤ◌, if◌then◌else◌, lt-ltb, le-leb, refl, ap, sym, subst, ◌∙◌, arith}
 use Rattle.std.specs.List.{list_all}
 use Rattle.std.specs.Ordering.{int_eq}
 use Rattle.std.specs.Int.Signed.{le_z_yes}
@@ -7,20 +7,19 @@ use Rattle.std.proofs.lemmas.Int.{ints}
 use lib.Dec.{T}
 use Rattle.std.specs.Str.{is_utf8}
 use Rattle.std.proofs.lemmas.Bool.Decides.{Decides-int_eq, nat_tests}
-use Rattle.serde_json.specs.Data.{Data, null, number, string, object, Members, no_members, put}
+use Rattle.serde_json.specs.Data.{Data, null, object, Members, no_members, put}
 use Rattle.serde_json.specs.Find.{get, get_member, as_i64, of_integer, as_object}
-use Rattle.serde_json.proofs.Views.{get_member-put, get_member-put_other}
+use Rattle.serde_json.proofs.Views.{get_member-put}
 use Rattle.prop_table.specs.Props.{PropList}
-use Rattle.prop_table.specs.Edits.{EditList, IsEditInRow, AreEditsInRows, merged, widened_edit}
+use Rattle.prop_table.specs.Edits.{EditList, IsEditInRow, AreEditsInRows, merged}
 use Rattle.prop_table.specs.Table.{RowRule, v1_rules, v2_rules, IsInRow, AreInRows, start_of}
-use Rattle.prop_table.specs.Widened.{widened}
-use Rattle.script_read.specs.Members.{member_count, names_found, has_form, integer_of}
-use Rattle.script_read.specs.Places.{unless, at_member, first_of, refused}
-use Rattle.script_read.specs.Faults.{is_from, takes, row_value, taken, bad_row, label_of, bad_props, rules_for}
-use Rattle.script_read.specs.Value.{named_row, named_rows, named_label, edits_of, rows_of, props_of}
-use Rattle.script_read.specs.Writing.{with_members, member_if, integer, row_json, text_json, row_members, edit_members, object_of, unless_start, changed_rows, some_label, some_object}
+use Rattle.script_read.specs.Members.{member_count, names_found, has_form}
+use Rattle.script_read.specs.Places.{refused}
+use Rattle.script_read.specs.Faults.{is_from, taken, bad_row, label_of, bad_props, rules_for}
+use Rattle.script_read.specs.Value.{named_rows, named_label, edits_of, props_of}
+use Rattle.script_read.specs.Writing.{with_members, row_json, text_json, row_members, edit_members, object_of, unless_start, changed_rows, some_object}
 use Rattle.script_read.proofs.RowMembers.{with_both}
-use Rattle.script_read.proofs.PutRows.{both, AreApart, AreAbsent, absent_none, RowsAre, rows_put, rows_beside, rows_same, rows_kept, rows_later, rows_counted, rows_found, named_count, member_count-put, count_by-first, count_by-both, v2_apart, no_label}
+use Rattle.script_read.proofs.PutRows.{both, absent_none, RowsAre, rows_put, rows_beside, rows_kept, rows_later, rows_counted, rows_found, named_count, member_count-put, count_by-first, count_by-both, v2_apart, no_label}
 
 -- a number of 64 bits reads back
 pub integer_back : (z : ℤ) → z <ℤ pos (2 ^ 63) → as_i64 (of_integer z) ≡ Some z

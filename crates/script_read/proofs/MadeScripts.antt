@@ -1,9 +1,8 @@
 -- The scripts that are made can be written.
-use Rattle.std.proofs.Common.{◌≡◌, ℕ, zero, suc, ◌+◌, ◌*◌, ◌%◌, ◌<◌, ◌≤◌, ◌^◌, List, [], ◌∷◌, ◌++◌, map, length, replicate, slice_set, get_or, drop, fold, All, Bool, true, false, ◌&&◌, ◌||◌, IsTrue, cond, if◌then◌else◌, nat_eq, nat_le, bytes_eq, count_by, Option, Some, None, IfSome, codes, ℤ, pos, ◌≤ℤ◌, ◌<ℤ◌, ◌-ℤ◌, refl, ap, sym, subst, ◌∙◌, arith, rules}
+use Rattle.std.proofs.Common.{◌≡◌, ℕ, zero, suc, ◌+◌, ◌*◌, ◌%◌, ◌<◌, ◌≤◌, ◌^◌, List, [], ◌∷◌, length, replicate, slice_set, drop, fold, All, Bool, true, false, ◌&&◌, IsTrue, if◌then◌else◌, nat_eq, bytes_eq, Some, None, codes, ℤ, pos, refl, ◌∙◌, arith}
 use Rattle.std.specs.List.{list_any, IsDistinct, range_with_len}
 use Rattle.std.specs.Str.{is_utf8}
 use Rattle.std.proofs.lemmas.Int.{ints}
-use Rattle.std.proofs.lemmas.Bool.Decides.{nat_tests}
 use Rattle.std.proofs.lemmas.Str.{IsUtf8-nil, is_utf8-from_IsUtf8}
 use Rattle.std.proofs.lemmas.List.FromFn.{length-range_with_len, get_or-range_with_len}
 use Rattle.std.proofs.lemmas.List.{length-map, length_push}
@@ -11,20 +10,21 @@ use Rattle.std.proofs.lemmas.List.Elements.{All-nil, All-cons, All-head, All-tai
 use Rattle.prop_table.specs.Props.{PropList}
 use Rattle.prop_table.specs.Edits.{AreEditsInRows}
 use Rattle.prop_table.specs.Rules.{rule_at}
-use Rattle.prop_table.specs.Table.{v2_rules, AreInRows, AreNodeProps, IsInRow, start_of}
+use Rattle.prop_table.specs.Table.{v2_rules, AreNodeProps, IsInRow, start_of}
 use Rattle.prop_table.specs.declared.rows.TheConstants.{LEFT, TOP, RIGHT, BOTTOM, WIDTH, HEIGHT, BACKGROUND}
 use Rattle.prop_table.proofs.InRows.{AreInRows-set}
 use Rattle.prop_table.proofs.NodeRows.{AreNodeProps-start}
 use Rattle.shadow_kinds.specs.declared.Kind.{Kind}
 use Rattle.shadow_kinds.specs.declared.Kind.TheVariants.{View, Text, Image, Scroll}
 use Rattle.shadow_node.specs.Fields.{NodeFields}
-use Rattle.tree_settle.specs.Limits.{IsSizeInRange}
-use Rattle.tree_build.specs.Script.{ScriptForest, no_more, written, kept, kept_with, chained}
-use Rattle.tree_revision.specs.Records.{PlainOp, complete, state, props, resize}
-use Rattle.tree_revision.specs.Script.{PlainStep, PlainActor, PlainSurface, PlainScript, commit, mount}
-use Rattle.tree_revision.specs.InRange.{IsTagInRange, AreFieldsInRange, AreNodesInRange, IsSurfaceInRange, IsStepInRange}
-use Rattle.tree_revision.specs.Sound.{is_name, names_of, ids_of, is_mount, mounts_on, HasOneMounter, IsSoundScript, IsWithinCounts}
-use Rattle.script_read.specs.Making.{next_number, Drawn, drawn_below, one_more, drawn_list, for_each_below, starts_but, plain_fields, image_and_text, view_before, first_tree, turned_tree, commit_on, colored, turned, resized, later_step, scroll_step, mount_step, tree_steps, scroll_steps, made_actors, made_surfaces, made_script}
+use Rattle.tree_build.specs.Script.{ScriptForest, no_more, written, kept, chained}
+use Rattle.tree_revision.specs.Records.{complete}
+use Rattle.tree_revision.specs.Script.{PlainStep, PlainActor, PlainSurface}
+use Rattle.shadow_node.specs.InRange.{IsTagInRange, AreFieldsInRange}
+use Rattle.tree_build.specs.InRange.{AreNodesInRange}
+use Rattle.tree_revision.specs.InRange.{IsSurfaceInRange, IsStepInRange}
+use Rattle.tree_revision.specs.Sound.{is_name, is_mount, mounts_on, HasOneMounter}
+use Rattle.script_read.specs.Making.{next_number, Drawn, drawn_below, drawn_list, for_each_below, starts_but, plain_fields, image_and_text, view_before, first_tree, turned_tree, commit_on, colored, turned, resized, later_step, scroll_step, mount_step, tree_steps, scroll_steps, made_surfaces, made_script}
 use Rattle.script_read.specs.Writable.{AreFieldsWritable, AreNodesWritable, IsActWritable, IsWritable}
 
 -- ---- what holds of all that is made

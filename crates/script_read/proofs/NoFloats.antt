@@ -5,18 +5,15 @@ use Rattle.std.specs.Cmp.Lexicographic.{slice_cmp}
 use Rattle.std.specs.Str.{is_utf8}
 use Rattle.native_state.specs.declared.StateChange.{StateChange}
 use Rattle.native_state.specs.declared.StateChange.TheVariants.{Set, Add, SetIf}
-use Rattle.serde_json.specs.Data.{Data, null, string, array, object, Items, no_items, item, Members, no_members, member, put}
-use Rattle.serde_json.specs.Find.{of_integer, is_float}
-use Rattle.serde_json.specs.View.{items_of}
+use Rattle.serde_json.specs.Data.{Data, null, string, array, Items, no_items, item, Members, no_members, member, put}
 use Rattle.serde_json.specs.Written.{has_float, items_have_float, members_have_float}
 use Rattle.prop_table.specs.Edits.{EditList}
 use Rattle.prop_table.specs.Table.{RowRule, v2_rules}
 use Rattle.shadow_kinds.specs.Words.{word_of}
 use Rattle.shadow_node.specs.declared.NodeEdit.{NodeEdit}
-use Rattle.shadow_node.specs.Fields.{NodeFields}
 use Rattle.tree_build.specs.Script.{ScriptForest, no_more, written, kept, kept_with}
 use Rattle.tree_revision.specs.Records.{PlainOp, complete, state, props, resize, stop, suspend, resume}
-use Rattle.tree_revision.specs.Script.{PlainAct, commit, hold, mount, PlainStep, PlainActor, PlainSurface, PlainScript}
+use Rattle.tree_revision.specs.Script.{PlainAct, commit, hold, mount, PlainActor, PlainSurface, PlainScript}
 use Rattle.script_read.specs.Writing.{Member, with_members, object_of, member_if, natural, integer, text_json, row_json, row_members, edit_members, edit_json, changed_rows, some_label, some_object, some_array, node_object, written_json, kept_json, nodes_json, array_of, change_member, step_object, op_json, act_json, step_json, actor_json, surface_json, json_of}
 
 neither : (a b : Bool) → a ≡ false → b ≡ false → (a || b) ≡ false

@@ -1,26 +1,26 @@
 -- What was written of nodes reads back, and has no fault.
-use Rattle.std.proofs.Common.{◌≡◌, ℕ, suc, ◌+◌, ◌<◌, ◌≤◌, ◌^◌, List, [], ◌∷◌, ◌++◌, drop, replicate, length, Bool, true, false, Option, Some, None, is_some, IfSome, option_map, option_and_then, unwrap_or, codes, ℤ, pos, negsuc, nat_lt, ◌≤ℤ◌, lt-ltb, refl, ap, sym, ◌∙◌, arith}
+use Rattle.std.proofs.Common.{◌≡◌, ℕ, suc, ◌+◌, ◌<◌, ◌≤◌, ◌^◌, List, [], ◌∷◌, length, Bool, true, Option, Some, None, is_some, IfSome, option_map, option_and_then, unwrap_or, codes, pos, ◌≤ℤ◌, lt-ltb, refl, ap, ◌∙◌, arith}
 use Rattle.std.specs.Str.{is_utf8}
 use Rattle.std.proofs.lemmas.Int.{ints}
 use Rattle.std.proofs.lemmas.Bool.Decides.{nat_tests}
-use Rattle.serde_json.specs.Data.{Data, null, string, array, object, Items, no_items, item, Members, no_members}
-use Rattle.serde_json.specs.Find.{get, as_i64}
-use Rattle.prop_table.specs.Props.{PropList}
-use Rattle.prop_table.specs.Edits.{EditList, AreEditsInRows, merged, edited}
-use Rattle.prop_table.specs.Table.{RowRule, v2_rules, AreInRows, AreNodeProps, start_of}
+use Rattle.serde_json.specs.Data.{Data, null, string, array, Items, no_items, item, no_members}
+use Rattle.serde_json.specs.Find.{get}
+use Rattle.prop_table.specs.Edits.{EditList, AreEditsInRows}
+use Rattle.prop_table.specs.Table.{RowRule, v2_rules}
 use Rattle.shadow_kinds.specs.declared.Kind.{Kind}
 use Rattle.shadow_kinds.specs.declared.Kind.TheVariants.{View, Text, Image, Scroll, Input}
 use Rattle.shadow_kinds.specs.Words.{word_of, kind_of_word}
 use Rattle.shadow_node.specs.declared.NodeEdit.{NodeEdit}
 use Rattle.shadow_node.specs.Fields.{NodeFields}
 use Rattle.tree_build.specs.Script.{ScriptForest, no_more, written, kept, kept_with}
-use Rattle.tree_revision.specs.InRange.{IsTagInRange, AreFieldsInRange, IsEditInRange, AreNodesInRange}
-use Rattle.script_read.specs.Members.{integer_of, integer_in, natural_in, natural_at, text_in, text_at, value_at}
-use Rattle.script_read.specs.Places.{Pointer, unless, at_member, at_item, first_of, in_member, refused, in_nodes, in_nodes_from, in_node}
+use Rattle.shadow_node.specs.InRange.{IsTagInRange, AreFieldsInRange, IsEditInRange}
+use Rattle.tree_build.specs.InRange.{AreNodesInRange}
+use Rattle.script_read.specs.Members.{integer_of, natural_in, natural_at, text_in, text_at, value_at}
+use Rattle.script_read.specs.Places.{Pointer, at_member, first_of, refused, in_nodes, in_nodes_from, in_node}
 use Rattle.script_read.specs.Shape.{is_integer, is_text, is_array, is_object, has_node_form, misshapen_node}
-use Rattle.script_read.specs.Faults.{is_from, is_tag, no_kind, bad_props, bad_props_in, rules_for, bad_tag_in}
-use Rattle.script_read.specs.Value.{edit_of, edits_of, props_of, named_label, fields_of, change_of, node_before, nodes_of, nodes_in, children_of}
-use Rattle.script_read.specs.Writing.{natural, text_json, with_members, object_of, edit_members, edit_json, unless_start, changed_rows, some_label, some_object, some_array, node_object, written_json, kept_json, nodes_json}
+use Rattle.script_read.specs.Faults.{is_tag, no_kind, bad_props, bad_props_in, rules_for, bad_tag_in}
+use Rattle.script_read.specs.Value.{edit_of, props_of, named_label, fields_of, node_before, nodes_of, nodes_in, children_of}
+use Rattle.script_read.specs.Writing.{natural, with_members, object_of, edit_members, edit_json, changed_rows, some_label, some_object, some_array, node_object, written_json, kept_json, nodes_json}
 use Rattle.script_read.specs.Writable.{AreFieldsWritable, IsEditWritable, AreNodesWritable}
 use Rattle.script_read.proofs.PutRows.{rows_same}
 use Rattle.script_read.proofs.EditBack.{IsLabel, no_bad_props, members_of_props, edit_back, named_label_back, same_props, changed_in_rows, changed_unnamed, props_merged, merged-changed}

@@ -1,14 +1,25 @@
 -- Lists of the values of nodes.
-use Rattle.std.proofs.Common.{◌≡◌, ℕ, ◌+◌, ◌<◌, ◌≤◌, List, [], ◌∷◌, ◌++◌, map, length, get_or, drop, refl, ap, sym, ◌∙◌}
+use Rattle.std.proofs.Common.{◌≡◌, ℕ, suc, ◌+◌, ◌<◌, ◌≤◌, List, [], ◌∷◌, ◌++◌, map, length, get_or, drop, drop-cons, add-one, refl, ap, sym, ◌∙◌}
+use Rattle.std.proofs.Math.ListN.{drop_of_length-le}
 use Rattle.std.proofs.lemmas.List.{map-append}
-use Rattle.serde_json.specs.Data.{Items, no_items, item}
+use Rattle.serde_json.specs.Data.{Items, item}
 use Rattle.serde_json.specs.View.{view, items_view}
 use Rattle.serde_json.specs.declared.value.Value.{Value}
 use Rattle.tree_build.specs.declared.ScriptNode.{ScriptNode}
-use Rattle.tree_build.specs.Script.{ScriptForest, in_front, script_forest}
-use Rattle.tree_build.proofs.Steps.{script_forest-drop, script_forest-drop_end}
+use Rattle.tree_build.specs.Script.{ScriptForest, no_more, in_front, script_forest}
 use Rattle.script_read.specs.Writing.{nodes_json}
 use Rattle.script_read.proofs.ValueLists.{items_then, items_then-pushed, items_then-none}
+
+-- the script nodes from an index on: the one there in front of those after it
+script_forest-drop : (nodes : List ScriptNode) (i : ℕ) (d : ScriptNode) → i < length nodes → d ≡ get_or nodes i d
+    → script_forest (drop i nodes) ≡ in_front d (script_forest (drop (i + 1) nodes))
+script_forest-drop nodes i d h e =
+    let f : drop i nodes ≡ get_or nodes i d ∷ drop (suc i) nodes = drop-cons nodes i d h in rw (f, ← e, add-one) refl
+
+-- nothing is left after the last index
+script_forest-drop_end : (nodes : List ScriptNode) (i : ℕ) → length nodes ≤ i → script_forest (drop i nodes) ≡ no_more
+script_forest-drop_end nodes i h =
+    let e : drop i nodes ≡ [] = drop_of_length-le nodes h in rw e refl
 
 -- one node more
 pub node_pushed : (nodes : List ScriptNode) (i : ℕ) (node : ScriptNode) (vs ws : List Value) (v : Value) (whole : Items) → i < length nodes → node ≡ get_or nodes i node

@@ -7,7 +7,7 @@ use Rattle.prop_table.specs.Table.{RowRule, v1_rules, v2_rules, IsInRow, AreInRo
 use Rattle.prop_table.specs.Edits.{IsEditInRow, AreEditsInRows}
 use Rattle.prop_table.proofs.NodeRows.{AreInRows-v1_start, AreNodeProps-start}
 use Rattle.prop_table.proofs.Widening.{AreNodeProps-widened, AreEditsInRows-widened}
-use Rattle.tree_revision.specs.InRange.{IsEditInRange}
+use Rattle.shadow_node.specs.InRange.{IsEditInRange}
 use Rattle.script_read.specs.Faults.{takes, row_value, taken, label_of}
 use Rattle.script_read.specs.Value.{named_row, rows_of, props_of, named_rows, edits_of, named_label, edit_of}
 use Rattle.script_read.proofs.Ranges.{at_most}

@@ -1,5 +1,5 @@
 -- What an object has under the names of rows that were put one after another.
-use Rattle.std.proofs.Common.{◌≡◌, ℕ, suc, ◌+◌, List, [], ◌∷◌, ◌++◌, map, length, drop, Bool, true, false, not, ◌&&◌, Option, Some, None, is_some, option_map, count_by, sum_by, fold, cond, bytes_eq, codes, ℤ, Ordering, Less, Equal, Greater, nat_cmp, refl, ap, sym, ◌∙◌, arith}
+use Rattle.std.proofs.Common.{◌≡◌, ℕ, ◌+◌, List, [], ◌∷◌, ◌++◌, map, length, drop, Bool, true, false, not, ◌&&◌, Option, Some, None, is_some, option_map, count_by, sum_by, fold, cond, bytes_eq, codes, Ordering, Less, Equal, Greater, nat_cmp, refl, ap, sym, ◌∙◌, arith}
 use Rattle.std.specs.Ordering.{match_ordering}
 use Rattle.std.specs.Cmp.Lexicographic.{slice_cmp}
 use Rattle.std.proofs.lemmas.Slice.Eq.{bytes_eq-Decides}
@@ -9,7 +9,7 @@ use Rattle.serde_json.proofs.Views.{get_member-put, get_member-put_other}
 use Rattle.prop_table.specs.Edits.{EditList}
 use Rattle.prop_table.specs.Table.{RowRule, v2_rules}
 use Rattle.script_read.specs.Members.{member_count, names_found}
-use Rattle.script_read.specs.Writing.{with_members, member_if, row_json, row_members}
+use Rattle.script_read.specs.Writing.{with_members, row_json, row_members}
 
 -- a name is none of the rows'
 abbrev pub IsNoName : List ℕ → List RowRule → Type 0

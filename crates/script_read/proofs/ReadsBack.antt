@@ -1,8 +1,7 @@
 -- The text of a script reads back.
-use Rattle.std.proofs.Common.{◌≡◌, ℕ, zero, suc, ◌+◌, ◌<◌, ◌≤◌, ◌^◌, List, [], ◌∷◌, ◌++◌, map, length, count_by, cond, position, find, All, Bool, true, false, not, ◌&&◌, ◌||◌, IsTrue, nat_eq, nat_le, nat_lt, bytes_eq, int_le, int_lt, Option, Some, None, option_map, unwrap_or, codes, ℤ, pos, ◌≤ℤ◌, lt-ltb, le-leb, Result, Ok, Err, IfOk, if◌then◌else◌, refl, ap, sym, subst, ◌∙◌, arith}
-use Rattle.std.specs.List.{list_any, IsDistinct, AllByRecursion, prefix_len, position_or_len}
+use Rattle.std.proofs.Common.{◌≡◌, ℕ, ◌<◌, ◌≤◌, ◌^◌, List, [], ◌∷◌, map, length, count_by, find, All, Bool, true, false, not, ◌&&◌, ◌||◌, IsTrue, nat_eq, nat_le, nat_lt, bytes_eq, int_le, Option, Some, None, option_map, unwrap_or, codes, pos, lt-ltb, le-leb, Result, Ok, Err, IfOk, if◌then◌else◌, refl, ap, sym, subst, ◌∙◌, arith}
+use Rattle.std.specs.List.{list_any, AllByRecursion, prefix_len}
 use Rattle.std.specs.Str.{is_utf8}
-use Rattle.std.proofs.lemmas.Int.{ints}
 use Rattle.std.proofs.lemmas.Bool.Decides.{nat_tests}
 use Rattle.std.proofs.lemmas.List.{length-map}
 use Rattle.std.proofs.lemmas.List.Elements.{All-head, All-tail, All-nil, All-cons}
@@ -10,19 +9,18 @@ use Rattle.serde_json.specs.Data.{Data, null}
 use Rattle.serde_json.specs.Read.{read}
 use Rattle.tree_revision.specs.Script.{PlainStep, PlainActor, PlainSurface, PlainScript}
 use Rattle.tree_revision.specs.InRange.{IsSurfaceInRange, IsStepInRange}
-use Rattle.tree_revision.specs.Sound.{is_name, names_of, ids_of, mounts_on, HasOneMounter, IsSoundScript, IsWithinCounts, step_count}
-use Rattle.script_read.specs.Members.{integer_in, natural_in, items_at, natural_at, integer_at}
-use Rattle.script_read.specs.Places.{Pointer, Refusals, unless, at_member, first_of, in_member, refused, in_items, in_actors, in_step, nowhere}
+use Rattle.tree_revision.specs.Sound.{is_name, names_of, ids_of, mounts_on, HasOneMounter, IsSoundScript, IsWithinCounts}
+use Rattle.script_read.specs.Members.{natural_in, items_at, natural_at}
+use Rattle.script_read.specs.Places.{Pointer, Refusals, unless, at_member, first_of, in_member, refused, in_items, in_actors, nowhere}
 use Rattle.script_read.specs.Words.{is_version_two}
-use Rattle.script_read.specs.Shape.{misshapen_surface, misshapen_step, misshapen, misshapen_script, is_integer, is_array, not_integers}
+use Rattle.script_read.specs.Shape.{misshapen_surface, misshapen, misshapen_script, is_integer, not_integers}
 use Rattle.script_read.specs.Faults as fault
 use Rattle.script_read.specs.Value.{actor_of, surface_of, script_of}
 use Rattle.script_read.specs.Reads.{fault_of, placed, first_fault, json_in, fault_at, script_unless, script_in}
-use Rattle.script_read.specs.Writing.{natural, step_json, actor_json, surface_json, json_of}
+use Rattle.script_read.specs.Writing.{natural, actor_json, surface_json, json_of}
 use Rattle.script_read.specs.Writable.{IsActWritable, IsActFit, IsWritable}
-use Rattle.script_read.specs.declared.script.ScriptFault.{ScriptFault}
 use Rattle.script_read.specs.declared.script.ScriptFault.TheVariants.{Shape, Version, TooMany, BadName, BadSurface, BadKind, BadProp, BadTag, TwoMounters, BadTurn}
-use Rattle.script_read.proofs.NodeBack.{natural_back, natural_in-back, integer_passes}
+use Rattle.script_read.proofs.NodeBack.{natural_in-back, integer_passes}
 use Rattle.script_read.proofs.StepBack.{step_passes, step_formed, step_placed, step_propped, step_tagged, act_nodes_formed, act_nodes_kinded, act_nodes_tagged, act_nodes_propped, act_nodes_unrefused}
 use Rattle.script_read.proofs.ScriptBack.{listed_back, none_after, distinct_after, map_back, surface_formed, surface_back, id_back, surface_placed, surface_small, surfaces_found, IsGoodStep, IsGoodActor, actor_formed, actors_pass, actor_back, actors_mount, name_placed, steps_under}
 

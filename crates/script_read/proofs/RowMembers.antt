@@ -1,8 +1,7 @@
 -- The members of rows, row by row.
-use Rattle.std.proofs.Common.{◌≡◌, ℕ, zero, suc, ◌+◌, ◌<◌, ◌≤◌, List, [], ◌∷◌, ◌++◌, map, length, get_or, drop, refl, ap, sym, ◌∙◌, add-one, drop-cons, arith, Ordering, Less, Equal, Greater}
-use Rattle.std.proofs.Math.ListN.{drop_of_length-le}
+use Rattle.std.proofs.Common.{◌≡◌, ℕ, zero, suc, ◌+◌, ◌<◌, List, [], ◌∷◌, ◌++◌, map, length, get_or, drop, refl, ap, sym, ◌∙◌, add-one, drop-cons, arith, Ordering, Less, Equal, Greater}
 use Rattle.std.proofs.lemmas.List.{get_or_default}
-use Rattle.std.specs.Prelude.{fold, Option, Some, None, option_map, codes, ℤ}
+use Rattle.std.specs.Prelude.{Option, Some, None, option_map, codes, ℤ}
 use Rattle.std.specs.Prelude.{Bool, true, false}
 use Rattle.std.specs.Borrow.{Bor}
 use Rattle.std.specs.Ordering.{nat_cmp, match_ordering}

@@ -1,33 +1,31 @@
 -- What was written of a script reads back, and has no fault.
-use Rattle.std.proofs.Common.{◌≡◌, ℕ, zero, suc, ◌+◌, ◌<◌, ◌≤◌, ◌^◌, List, [], ◌∷◌, ◌++◌, map, length, sum, count_by, cond, position, find, All, Bool, true, false, not, ◌&&◌, ◌||◌, IsTrue, nat_eq, nat_le, nat_lt, bytes_eq, slice_index, int_le, int_lt, Option, Some, None, option_map, unwrap_or, codes, ℤ, pos, ◌≤ℤ◌, ◌<ℤ◌, lt-ltb, le-leb, append-nil, append_assoc, refl, ap, sym, subst, ◌∙◌, arith}
-use Rattle.std.specs.List.{list_any, list_all, IsDistinct, AllByRecursion, prefix_len}
+use Rattle.std.proofs.Common.{◌≡◌, ℕ, zero, suc, ◌+◌, ◌<◌, ◌≤◌, ◌^◌, List, [], ◌∷◌, ◌++◌, map, length, count_by, All, Bool, true, false, ◌&&◌, ◌||◌, IsTrue, nat_eq, nat_le, bytes_eq, Option, None, codes, pos, ◌≤ℤ◌, lt-ltb, le-leb, append_assoc, refl, ap, sym, ◌∙◌, arith}
+use Rattle.std.specs.List.{list_any, list_all, IsDistinct, AllByRecursion}
 use Rattle.std.specs.Ordering.{int_eq}
 use Rattle.std.specs.Str.{is_utf8, IsAscii}
 use Rattle.std.proofs.lemmas.Int.{ints}
 use Rattle.std.proofs.lemmas.Bool.Decides.{nat_tests, Decides-int_eq}
 use Rattle.std.proofs.lemmas.List.{map-append, length-map}
-use Rattle.std.proofs.lemmas.List.Elements.{All-head, All-tail, All-nil, All-push}
+use Rattle.std.proofs.lemmas.List.Elements.{All-head, All-tail, All-push}
 use Rattle.std.proofs.lemmas.Str.{IsUtf8-from_ascii, is_utf8-from_IsUtf8}
-use Rattle.serde_json.specs.Data.{Data, array, Items, no_items, item}
+use Rattle.serde_json.specs.Data.{Data}
 use Rattle.serde_json.specs.View.{items_of}
-use Rattle.tree_settle.specs.Limits.{IsSizeInRange}
-use Rattle.tree_revision.specs.Records.{PlainOp, complete, state, props, resize, stop, suspend, resume}
+use Rattle.tree_revision.specs.Records.{complete, state, props, resize, stop, suspend, resume}
 use Rattle.native_state.specs.declared.StateChange.TheVariants.{Set, Add, SetIf}
 use Rattle.tree_revision.specs.Script.{PlainAct, commit, hold, mount, PlainStep, PlainActor, PlainSurface, PlainScript}
 use Rattle.tree_revision.specs.InRange.{IsSurfaceInRange, IsStepInRange}
-use Rattle.tree_revision.specs.Sound.{is_name_byte, is_name, names_of, ids_of, is_mount, mounts_on, HasOneMounter, IsSoundScript, IsWithinCounts, step_count}
-use Rattle.script_read.specs.Members.{listed, integer_of, integer_in, natural_in, items_in, items_at, integer_at, text_at}
-use Rattle.script_read.specs.Places.{Pointer, Refusals, unless, at_member, at_item, first_of, first_after, in_items, in_actor, in_actors, in_step, nowhere}
-use Rattle.script_read.specs.Words.{is_version_two}
-use Rattle.script_read.specs.Shape.{misshapen_actor, misshapen_surface, misshapen_step, misshapen, misshapen_script, is_integer, not_integers}
+use Rattle.tree_revision.specs.Sound.{is_name_byte, is_name, ids_of, is_mount, mounts_on, step_count}
+use Rattle.script_read.specs.Members.{listed, items_at, integer_at}
+use Rattle.script_read.specs.Places.{Pointer, Refusals, first_after, in_actor, in_actors, in_step}
+use Rattle.script_read.specs.Shape.{misshapen_actor, misshapen_surface}
 use Rattle.script_read.specs.Faults as fault
-use Rattle.script_read.specs.Value.{step_of, actor_of, surface_of, script_of}
-use Rattle.script_read.specs.Writing.{natural, text_json, array_of, step_json, act_json, op_json, actor_json, surface_json, json_of}
-use Rattle.script_read.specs.Writable.{IsActWritable, IsActFit, IsWritable}
+use Rattle.script_read.specs.Value.{step_of, actor_of, surface_of}
+use Rattle.script_read.specs.Writing.{step_json, act_json, actor_json, surface_json, json_of}
+use Rattle.script_read.specs.Writable.{IsActWritable, IsActFit}
 use Rattle.script_read.proofs.PutRows.{both, fold_from, count_by-first}
 use Rattle.script_read.proofs.EditBack.{integer_back, from_range}
-use Rattle.script_read.proofs.NodeBack.{natural_back, natural_in-back, integer_passes}
-use Rattle.script_read.proofs.StepBack.{size_fits, PassAct, step_passes, step_formed, step_placed, step_propped, step_tagged, act_nodes_formed, act_nodes_kinded, act_nodes_tagged, act_nodes_propped, act_nodes_unrefused, step_back}
+use Rattle.script_read.proofs.NodeBack.{natural_in-back}
+use Rattle.script_read.proofs.StepBack.{size_fits, step_back}
 
 -- ---- lists of values
 

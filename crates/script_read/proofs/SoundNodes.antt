@@ -8,7 +8,8 @@ use Rattle.serde_json.specs.Data.{Data, null, boolean, number, string, array, ob
 use Rattle.serde_json.specs.Find.{get}
 use Rattle.shadow_node.specs.declared.NodeEdit.{NodeEdit}
 use Rattle.tree_build.specs.Script.{ScriptForest, no_more, written}
-use Rattle.tree_revision.specs.InRange.{IsTagInRange, AreFieldsInRange, IsEditInRange, AreNodesInRange}
+use Rattle.shadow_node.specs.InRange.{IsTagInRange, AreFieldsInRange, IsEditInRange}
+use Rattle.tree_build.specs.InRange.{AreNodesInRange}
 use Rattle.script_read.specs.Members.{has_form, natural_of, natural_at, integer_in, value_at}
 use Rattle.script_read.specs.Places.{at_member, at_item, refused, in_nodes, in_nodes_from, in_node, in_children}
 use Rattle.script_read.specs.Shape.{has_node_form, misshapen_node}

@@ -1,26 +1,20 @@
 -- What was written of steps reads back, and has no fault.
-use Rattle.std.proofs.Common.{◌≡◌, ℕ, ◌+◌, ◌<◌, ◌≤◌, ◌^◌, List, [], ◌∷◌, Bool, true, false, IsTrue, Option, Some, None, option_map, option_and_then, codes, ℤ, pos, ◌≤ℤ◌, ◌<ℤ◌, int_le, lt-ltb, refl, ap, sym, ◌∙◌, arith}
+use Rattle.std.proofs.Common.{◌≡◌, ℕ, ◌<◌, ◌^◌, Bool, true, Option, None, codes, ℤ, pos, ◌≤ℤ◌, ◌<ℤ◌, int_le, lt-ltb, refl, ap, ◌∙◌, arith}
 use Rattle.std.proofs.lemmas.Int.{ints}
 use Rattle.std.proofs.lemmas.Bool.Decides.{nat_tests}
-use Rattle.serde_json.specs.Data.{Data, array}
-use Rattle.serde_json.specs.Find.{get}
-use Rattle.shadow_frame.specs.declared.Point.{Point}
-use Rattle.shadow_frame.specs.declared.Size.{Size as Area}
+use Rattle.serde_json.specs.Data.{Data}
 use Rattle.native_state.specs.declared.StateChange.{StateChange}
 use Rattle.native_state.specs.declared.StateChange.TheVariants.{Set, Add, SetIf}
-use Rattle.tree_settle.specs.Limits.{IsSizeInRange}
-use Rattle.shadow_node.specs.declared.NodeEdit.{NodeEdit}
-use Rattle.tree_build.specs.Script.{ScriptForest}
 use Rattle.tree_revision.specs.Records.{PlainOp, complete, state, props, resize, stop, suspend, resume}
 use Rattle.tree_revision.specs.Script.{PlainAct, commit, hold, mount, PlainStep}
-use Rattle.tree_revision.specs.InRange.{IsTagInRange, IsEditInRange, AreNodesInRange, IsOpInRange, IsActInRange}
-use Rattle.script_read.specs.Members.{integer_in, natural_in, items_at, integer_at}
-use Rattle.script_read.specs.Places.{Pointer, Refusals, in_nodes_from, in_step}
-use Rattle.script_read.specs.Shape.{misshapen_step, misshapen_node, misshapen}
-use Rattle.script_read.specs.Faults.{is_from, is_surface, bad_step, no_kind, bad_props, bad_props_in, bad_tag_in, rules_for}
-use Rattle.script_read.specs.Value.{nodes_in, edit_of, act_of, step_of}
-use Rattle.script_read.specs.Writing.{natural, integer, nodes_json, edit_json, op_json, act_json, step_json}
-use Rattle.script_read.specs.Writable.{AreNodesWritable, IsEditWritable, IsChangeWritable, IsOpWritable, IsActWritable, IsChangeFit, IsOpFit, IsActFit}
+use Rattle.tree_revision.specs.InRange.{IsOpInRange, IsActInRange}
+use Rattle.script_read.specs.Members.{natural_in, items_at}
+use Rattle.script_read.specs.Places.{Pointer, Refusals, in_step}
+use Rattle.script_read.specs.Shape.{misshapen_step, misshapen_node}
+use Rattle.script_read.specs.Faults.{is_surface, bad_step, no_kind, bad_props_in, bad_tag_in}
+use Rattle.script_read.specs.Value.{step_of}
+use Rattle.script_read.specs.Writing.{natural, op_json, act_json, step_json}
+use Rattle.script_read.specs.Writable.{IsChangeWritable, IsOpWritable, IsActWritable, IsChangeFit, IsOpFit, IsActFit}
 use Rattle.script_read.proofs.EditBack.{integer_back, from_range}
 use Rattle.script_read.proofs.NodeBack.{natural_in-back, tag_passes, tag_fits, PassNodes, nodes_pass, nodes_formed, nodes_kinded, nodes_tagged, nodes_propped, nodes_back, nodes_unrefused, edit_faultless, edit_of_back}
 

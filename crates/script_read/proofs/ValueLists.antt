@@ -1,6 +1,5 @@
 -- Lists of JSON values, item by item.
-use Rattle.std.proofs.Common.{◌≡◌, ℕ, ◌+◌, ◌<◌, ◌≤◌, List, [], ◌∷◌, ◌++◌, map, length, All, subst, get_or, take, drop, take_all, refl, ap, sym, ◌∙◌, add-one, drop-cons}
-use Rattle.std.proofs.Math.ListN.{drop_of_length-le}
+use Rattle.std.proofs.Common.{◌≡◌, ℕ, ◌+◌, ◌<◌, ◌≤◌, List, [], ◌∷◌, ◌++◌, map, length, All, subst, get_or, take, take_all, refl, ap, sym, ◌∙◌}
 use Rattle.std.proofs.lemmas.List.{take_more, map-append}
 use Rattle.std.specs.Prelude.{Bool, true, false}
 use Rattle.std.specs.Str.{is_utf8, IsUtf8}

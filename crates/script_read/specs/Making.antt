@@ -1,5 +1,5 @@
 -- The scripts that are made from a number.
-use Rattle.std.specs.Prelude.{◌≡◌, ℕ, zero, suc, ◌+◌, ◌*◌, ◌%◌, ℤ, pos, ◌-ℤ◌, List, [], ◌∷◌, ◌++◌, map, fold, slice_set, codes, nat_eq, if◌then◌else◌, Option, Some, None, replicate}
+use Rattle.std.specs.Prelude.{◌≡◌, ℕ, zero, suc, ◌+◌, ◌*◌, ◌%◌, ℤ, pos, ◌-ℤ◌, List, [], ◌∷◌, ◌++◌, map, fold, slice_set, codes, nat_eq, if◌then◌else◌, Some, None, replicate}
 use Rattle.std.specs.List.{range_with_len}
 use Rattle.native_state.specs.declared.StateChange.TheVariants.{Add}
 use Rattle.prop_table.specs.Props.{PropList}

@@ -1,5 +1,5 @@
 -- Which scripts can be written as texts that read back.
-use Rattle.std.specs.Prelude.{ℕ, ◌<◌, ◌^◌, ◌≡◌, drop, All, Bool, true, false, IsTrue, ◌||◌, nat_eq, IfSome, replicate, None, ℤ, pos, ◌<ℤ◌}
+use Rattle.std.specs.Prelude.{◌<◌, ◌^◌, ◌≡◌, drop, All, Bool, false, IsTrue, ◌||◌, nat_eq, IfSome, replicate, None, pos, ◌<ℤ◌}
 use Rattle.std.specs.Str.{is_utf8}
 use Rattle.shadow_frame.specs.declared.Point.{Point}
 use Rattle.native_state.specs.declared.StateChange.{StateChange}

@@ -5,7 +5,6 @@ use Rattle.std.specs.Str.{is_utf8}
 use Rattle.serde_json.specs.Data.{Data, null, number, unsigned, string, array, object, Items, no_items, item, Members, no_members, put}
 use Rattle.serde_json.specs.Find.{of_integer}
 use Rattle.serde_json.specs.View.{items_of}
-use Rattle.shadow_frame.specs.declared.Point.{Point}
 use Rattle.native_state.specs.declared.StateChange.{StateChange}
 use Rattle.native_state.specs.declared.StateChange.TheVariants.{Set, Add, SetIf}
 use Rattle.prop_table.specs.Props.{PropList}

@@ -127,7 +127,7 @@ fn kept_node(tag: u32) -> ScriptNode
 }
 
 /// The node of that tag as it is, with other children.
-#[tactic(auto, using(crate::proofs::Fronts::front_kept_with))]
+#[tactic(auto, using(tree_build::proofs::Fronts::front_kept_with))]
 fn kept_with(tag: u32, children: Items<ScriptNode>) -> ScriptNode
     ensures { (rest : ScriptForest) → in_front result rest ≡ kept_with_of tag None (script_forest children) rest }
 {

@@ -235,7 +235,7 @@ fn node_values(alloc: Global, nodes: &[ScriptNode]) -> Result<Vec<Value>, AllocE
 
 /// A node with those below it.
 #[cycle(nodes)]
-#[tactic(auto, using(crate::proofs::Fronts::front_written, crate::proofs::Fronts::front_kept, crate::proofs::Fronts::front_kept_with))]
+#[tactic(auto, using(tree_build::proofs::Fronts::front_written, tree_build::proofs::Fronts::front_kept, tree_build::proofs::Fronts::front_kept_with))]
 fn node_value(alloc: Global, node: &ScriptNode) -> Result<Value, AllocError>
     ensures { IfOk result (λ value. (rest : ScriptForest) → nodes_json (in_front node.now rest) ≡ item (view value) (nodes_json rest)) }
 {

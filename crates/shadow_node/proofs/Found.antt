@@ -1,19 +1,19 @@
 -- The node of a tag in a forest without its states and frames.
 use Rattle.std.proofs.Common.{◌≡◌, ℕ, Bool, true, false, cond, refl, ◌∙◌}
 use Rattle.std.specs.Prelude.{Option, Some, None, nat_eq}
-use Rattle.std.specs.Option.{option_map}
+use Rattle.std.specs.Option.{option_map, option_or}
 use Rattle.shadow_node.specs.Forest.{PlainForest, none, node, PlainNode}
 use Rattle.shadow_node.specs.Fields.{NodeFields, SettledFields, contents_of}
-use Rattle.shadow_node.specs.Find.{first_of_two, first_with, first_settled}
+use Rattle.shadow_node.specs.Find.{first_with, first_settled}
 
 -- a node without its state and frame, and those of what lies below it
 abbrev pub contents_of_node : PlainNode SettledFields → PlainNode NodeFields
 contents_of_node tree = record { fields = tree.fields.fields; children = contents_of tree.children }
 
 -- the first of two answers, mapped
-option_map-first_of_two : {A B : Type 0} (f : A → B) (a b : Option A) → option_map f (first_of_two a b) ≡ first_of_two (option_map f a) (option_map f b)
-option_map-first_of_two f (Some x) b = refl
-option_map-first_of_two f None b = refl
+option_map-option_or : {A B : Type 0} (f : A → B) (a b : Option A) → option_map f (option_or a b) ≡ option_or (option_map f a) (option_map f b)
+option_map-option_or f (Some x) b = refl
+option_map-option_or f None b = refl
 
 -- one of two answers by a test, mapped
 option_map-cond : {A B : Type 0} (f : A → B) (test : Bool) (a b : Option A) → option_map f (cond test a b) ≡ cond test (option_map f a) (option_map f b)
@@ -26,9 +26,9 @@ pub first_with-contents : (tag : ℕ) (forest : PlainForest SettledFields)
 first_with-contents tag none = refl
 first_with-contents tag (node settled children siblings) =
     option_map-cond contents_of_node (nat_eq settled.fields.tag tag) (Some (record { fields = settled; children = children }))
-    (first_of_two (first_settled tag children) (first_settled tag siblings))
+    (option_or (first_settled tag children) (first_settled tag siblings))
     ∙ rw (
-      option_map-first_of_two contents_of_node (first_settled tag children) (first_settled tag siblings),
+      option_map-option_or contents_of_node (first_settled tag children) (first_settled tag siblings),
       first_with-contents tag children,
       first_with-contents tag siblings,
     ) refl

@@ -1,19 +1,15 @@
 -- The node of a tag, and the way to it.
 use Rattle.std.specs.Prelude.{ℕ, List, [], ◌∷◌, Option, Some, None, nat_eq, if◌then◌else◌}
+use Rattle.std.specs.Option.{option_or}
 use Rattle.shadow_node.specs.Forest.{PlainForest, none, node, PlainNode}
 use Rattle.shadow_node.specs.Fields.{NodeFields, SettledFields}
-
--- the first of two answers that is there
-abbrev pub first_of_two : {A : Type 0} → Option A → Option A → Option A
-first_of_two (Some x) other = Some x
-first_of_two None other = other
 
 -- the first node with that tag, in preorder, where each node's fields give its tag
 abbrev pub first_by : {A : Type 0} → (A → ℕ) → ℕ → PlainForest A → Option (PlainNode A)
 first_by tag_in tag none = None
 first_by tag_in tag (node fields children siblings) =
     if nat_eq (tag_in fields) tag then Some (record { fields = fields; children = children })
-    else first_of_two (first_by tag_in tag children) (first_by tag_in tag siblings)
+    else option_or (first_by tag_in tag children) (first_by tag_in tag siblings)
 
 -- the first node with that tag, in preorder
 abbrev pub first_with : ℕ → PlainForest NodeFields → Option (PlainNode NodeFields)
@@ -33,4 +29,4 @@ abbrev pub way_to : ℕ → PlainForest SettledFields → Option (List ℕ)
 way_to tag none = None
 way_to tag (node settled children siblings) =
     if nat_eq settled.fields.tag tag then Some (settled.fields.tag ∷ [])
-    else first_of_two (way_from settled.fields.tag (way_to tag children)) (way_to tag siblings)
+    else option_or (way_from settled.fields.tag (way_to tag children)) (way_to tag siblings)

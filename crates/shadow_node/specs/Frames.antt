@@ -1,5 +1,5 @@
 -- Frames: where each node of a forest stands in its parent.
-use Rattle.std.specs.Prelude.{ℕ, List, [], ◌∷◌, Bool, true, false, Option, Some, None}
+use Rattle.std.specs.Prelude.{ℕ, List, [], ◌∷◌, Bool, if◌then◌else◌, Option, Some, None}
 use Rattle.shadow_frame.specs.declared.Rect.{Rect}
 use Rattle.shadow_frame.specs.declared.Size.{Size}
 use Rattle.shadow_frame.specs.Place.{placed}
@@ -20,22 +20,14 @@ frame_of size (parent ∷ above) fields = frame_in (frame_of size above parent).
 
 -- the state of a node: its family's newest, where its kind has one
 abbrev pub state_when : Bool → StateCell → Option StateCell
-state_when true cell = Some cell
-state_when false cell = None
-
--- a node below its ancestors, with its state and its frame
-abbrev pub settled_fields : Size → (ℕ → StateCell) → List NodeFields → NodeFields → SettledFields
-settled_fields size newest above fields = record {
-  fields = fields;
-  state = state_when (has_state_of fields.kind) (newest fields.tag);
-  frame = frame_of size above fields;
-}
+state_when has_state cell = if has_state then Some cell else None
 
 -- a forest below its ancestors, with each node's state and frame
 abbrev pub settled_below : Size → (ℕ → StateCell) → List NodeFields → PlainForest NodeFields → PlainForest SettledFields
 settled_below size newest above none = none
 settled_below size newest above (node fields children siblings) =
-    node (settled_fields size newest above fields) (settled_below size newest (fields ∷ above) children) (settled_below size newest above siblings)
+    node (record { fields = fields; state = state_when (has_state_of fields.kind) (newest fields.tag); frame = frame_of size above fields })
+    (settled_below size newest (fields ∷ above) children) (settled_below size newest above siblings)
 
 -- a surface's forest, with each node's state and frame
 abbrev pub settled_forest : Size → (ℕ → StateCell) → PlainForest NodeFields → PlainForest SettledFields

@@ -11,3 +11,5 @@ pub mod Shown
 pub mod Entered
 pub mod Edit
 pub mod Walked
+pub mod InRange
+pub mod Limits

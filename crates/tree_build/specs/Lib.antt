@@ -1,5 +1,9 @@
 pub mod Script
 pub mod Resolved
 pub mod Refusals
-pub mod WrittenViews
 pub mod Unsettled
+pub mod InRange
+pub mod Built
+pub mod Index
+pub mod KeptNodes
+pub mod Buildable

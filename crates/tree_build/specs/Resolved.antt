@@ -1,5 +1,6 @@
 -- The forest that script nodes name.
 use Rattle.std.specs.Prelude.{Option, Some, None}
+use Rattle.std.specs.Option.{option_map_or}
 use Rattle.shadow_node.specs.declared.NodeEdit.{NodeEdit}
 use Rattle.shadow_node.specs.Forest.{PlainForest, none, node, PlainNode}
 use Rattle.shadow_node.specs.Fields.{NodeFields}
@@ -9,8 +10,7 @@ use Rattle.tree_build.specs.Script.{ScriptForest, no_more, written, kept, kept_w
 
 -- a change where one is given
 abbrev pub edited_by : Option NodeEdit → NodeFields → NodeFields
-edited_by None fields = fields
-edited_by (Some change) fields = edited change fields
+edited_by change fields = option_map_or (λ change. edited change fields) change fields
 
 -- a kept node in front of its later siblings; a tag that the held forest has not names nothing
 abbrev pub kept_node : Option (PlainNode NodeFields) → Option NodeEdit → PlainForest NodeFields → PlainForest NodeFields

@@ -2,6 +2,10 @@
 #![tactic(auto)]
 
 mod builds;
+mod checks;
+mod held;
+mod limits;
+mod making;
 #[cfg(test)]
 mod tests;
 

@@ -12,7 +12,8 @@ use Rattle.shadow_node.specs.Fields.{NodeFields}
 use Rattle.tree_build.specs.Refusals.{repeated_after, repeated}
 use Rattle.tree_build.specs.declared.builds.BuildRefusal.{BuildRefusal}
 use Rattle.tree_build.specs.declared.builds.BuildRefusal.TheVariants.{Unkept, ChildOfLeaf, TwiceTag}
-use Rattle.tree_revision.specs.Revisions.{PlainFamily, kind_of_family, added_to, families_with}
+use Rattle.tree_revision.specs.Revisions.{PlainFamily, kind_of_family, families_with}
+use Rattle.tree_revision.proofs.Shorthands.{added_to}
 use Rattle.tree_revision.specs.declared.record.Cancel.TheVariants.{KindChanged}
 use Rattle.tree_revision.specs.Cancels.{cancel_for, is_other_kind, kind_changed}
 

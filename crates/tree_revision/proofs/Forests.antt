@@ -1,16 +1,18 @@
 -- What holds of each node of a forest, and of the forests that script nodes name.
 use Rattle.std.proofs.Common.{◌≡◌, ℕ, List, [], ◌∷◌, ◌++◌, true, false, cond, map, Option, Some, None, nat_eq, refl, sym, ◌∙◌}
 use Rattle.std.specs.List.{AllByRecursion}
+use Rattle.std.specs.Option.{option_or}
 use Rattle.std.proofs.lemmas.List.{map-append}
 use Rattle.shadow_node.specs.declared.NodeEdit.{NodeEdit}
 use Rattle.shadow_node.specs.Forest.{PlainForest, PlainNode, none, node, preorder}
 use Rattle.shadow_node.specs.Fields.{NodeFields, tags_of}
-use Rattle.shadow_node.specs.Find.{first_of_two, first_with}
+use Rattle.shadow_node.specs.Find.{first_with}
 use Rattle.shadow_node.specs.Edit.{edited}
 use Rattle.shadow_node.proofs.Maps.{AllFields}
 use Rattle.tree_build.specs.Script.{ScriptForest, no_more, written, kept, kept_with}
 use Rattle.tree_build.specs.Resolved.{edited_by, kept_node, kept_node_with, resolved}
-use Rattle.tree_revision.specs.InRange.{IsTagInRange, AreNodesInRange}
+use Rattle.shadow_node.specs.InRange.{IsTagInRange}
+use Rattle.tree_build.specs.InRange.{AreNodesInRange}
 use Rattle.tree_revision.specs.Revisions.{edited_at}
 
 -- what holds of each in both parts holds of each in the whole
@@ -35,7 +37,7 @@ OfFound P None = Unit {0}
 OfFound P (Some tree) = P tree.fields × AllFields P tree.children
 
 -- what holds of both answers holds of the first that is there
-of_first : (P : NodeFields → Type 0) (a b : Option (PlainNode NodeFields)) → OfFound P a → OfFound P b → OfFound P (first_of_two a b)
+of_first : (P : NodeFields → Type 0) (a b : Option (PlainNode NodeFields)) → OfFound P a → OfFound P b → OfFound P (option_or a b)
 of_first P None b h k = k
 of_first P (Some tree) b h k = h
 
@@ -43,7 +45,7 @@ of_first P (Some tree) b h k = h
 found_in : (P : NodeFields → Type 0) (tag : ℕ) (forest : PlainForest NodeFields) → AllFields P forest → OfFound P (first_with tag forest)
 found_in P tag none h = tt
 found_in P tag (node fields children siblings) h =
-    elim (nat_eq fields.tag tag) as (λ b. OfFound P (cond b (Some (record { fields = fields; children = children })) (first_of_two (first_with tag children) (first_with tag siblings)))) [
+    elim (nat_eq fields.tag tag) as (λ b. OfFound P (cond b (Some (record { fields = fields; children = children })) (option_or (first_with tag children) (first_with tag siblings)))) [
       | true ↦ (h.0, h.1)
       | false ↦ of_first P (first_with tag children) (first_with tag siblings) (found_in P tag children h.1) (found_in P tag siblings h.2)
     ]

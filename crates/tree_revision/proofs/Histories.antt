@@ -7,7 +7,8 @@ use Rattle.native_state.specs.declared.StateCell.{StateCell}
 use Rattle.native_state.specs.State.{start_cell, cell_after, cell_from}
 use Rattle.tree_revision.specs.Records.{PlainRecord}
 use Rattle.tree_revision.specs.Lawful.{MayFollow, MayAllFollow, IsLawful}
-use Rattle.tree_revision.specs.Newest.{change_of, changes_of, newest_state}
+use Rattle.tree_revision.specs.Newest.{change_of, newest_state}
+use Rattle.tree_revision.proofs.Shorthands.{changes_of}
 
 -- the changes of a family's state are those of the one part and then those of the other
 pub changes_of-append : (tag : ℕ) (us vs : List PlainRecord) → changes_of tag (us ++ vs) ≡ changes_of tag us ++ changes_of tag vs

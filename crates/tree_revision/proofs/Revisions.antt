@@ -3,7 +3,8 @@ use Rattle.std.proofs.Common.{◌≡◌, ℕ, suc, ◌+◌, ◌≤◌, List, [],
 use Rattle.std.proofs.lemmas.List.{take-append-drop, length-drop}
 use Rattle.shadow_frame.specs.declared.Size.{Size}
 use Rattle.tree_revision.specs.Records.{PlainRecord}
-use Rattle.tree_revision.specs.Revisions.{PlainRevision, opening, revision_after, revision_at, revisions_from, revision_of}
+use Rattle.tree_revision.specs.Revisions.{PlainRevision, opening, revision_after, revisions_from, revision_of}
+use Rattle.tree_revision.proofs.Shorthands.{revision_at}
 
 -- records in two parts are taken one part after the other
 pub revisions_from-append : (size : Size) (past : List PlainRevision) (us vs : List PlainRecord)

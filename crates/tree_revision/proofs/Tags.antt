@@ -13,7 +13,9 @@ use Rattle.native_state.specs.declared.StateCell.{StateCell}
 use Rattle.tree_build.specs.Script.{ScriptForest}
 use Rattle.tree_build.specs.Resolved.{resolved}
 use Rattle.tree_revision.specs.Records.{PlainOp, complete, state, props, resize, stop, suspend, resume, PlainRecord}
-use Rattle.tree_revision.specs.InRange.{IsTagInRange, AreNodesInRange, IsOpInRange}
+use Rattle.shadow_node.specs.InRange.{IsTagInRange}
+use Rattle.tree_build.specs.InRange.{AreNodesInRange}
+use Rattle.tree_revision.specs.InRange.{IsOpInRange}
 use Rattle.tree_revision.specs.Revisions.{PlainRevision, kind_of_family, families_with, revision_after, revision_of}
 use Rattle.tree_revision.specs.Cancels.{complete_cancel, cancel_at}
 use Rattle.tree_revision.specs.Newest.{newest_state}

@@ -9,7 +9,8 @@ pub mod Lawful
 pub mod Tags
 pub mod Mountable
 pub mod Settled
-pub mod History
 pub mod Stands
 pub mod Stamps
-pub mod FirstForm
+pub mod Prepared
+pub mod Steps
+pub mod Ports

@@ -1,17 +1,12 @@
 -- Which revision may be mounted: the newest, or the one before mounting was suspended.
 use Rattle.std.specs.Prelude.{ℕ, ◌+◌, List, [], ◌∷◌, length, Option, Some, None, unwrap_or}
-use Rattle.tree_revision.specs.Records.{PlainOp, complete, state, props, resize, stop, suspend, resume, PlainRecord}
+use Rattle.tree_revision.specs.Records.{PlainOp, suspend, resume, PlainRecord}
 
 -- the number at which mounting stands still after a change, where it does: a suspend lets it stand at the number before, and a resume lets it go on
 abbrev pub still_after : (number : ℕ) → PlainOp → Option ℕ → Option ℕ
-still_after number (complete nodes) still = still
-still_after number (state tag change) still = still
-still_after number (props tag change) still = still
-still_after number (resize size) still = still
-still_after number stop still = still
-still_after number suspend None = Some number
-still_after number suspend (Some still) = Some still
+still_after number suspend still = Some (unwrap_or still number)
 still_after number resume still = None
+still_after number _ still = still
 
 -- the same after more records than that number
 abbrev pub still_from : (number : ℕ) → Option ℕ → List PlainRecord → Option ℕ

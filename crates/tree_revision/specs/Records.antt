@@ -42,9 +42,4 @@ plain_record entry = record { actor = entry.actor; call = entry.call; held = ent
 -- the nodes that a change names; only a complete names any
 abbrev pub nodes_of : PlainOp → ScriptForest
 nodes_of (complete nodes) = nodes
-nodes_of (state tag change) = no_more
-nodes_of (props tag change) = no_more
-nodes_of (resize size) = no_more
-nodes_of stop = no_more
-nodes_of suspend = no_more
-nodes_of resume = no_more
+nodes_of _ = no_more

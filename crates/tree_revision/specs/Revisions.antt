@@ -1,5 +1,5 @@
 -- Revisions as plain data: a commit is a function from one revision to the next.
-use Rattle.std.specs.Prelude.{ℕ, ◌-◌, List, [], ◌∷◌, ◌++◌, length, slice_index_or, nat_eq, if◌then◌else◌, Option, Some, None}
+use Rattle.std.specs.Prelude.{ℕ, ◌-◌, List, [], ◌∷◌, ◌++◌, length, slice_index_or, nat_eq, if◌then◌else◌, Option, Some, None, is_some}
 use Rattle.shadow_frame.specs.declared.Size.{Size}
 use Rattle.shadow_kinds.specs.declared.Kind.{Kind}
 use Rattle.shadow_node.specs.Forest.{PlainForest, none, node, preorder}
@@ -7,18 +7,15 @@ use Rattle.shadow_node.specs.Fields.{NodeFields}
 use Rattle.shadow_node.specs.declared.NodeEdit.{NodeEdit}
 use Rattle.shadow_node.specs.Edit.{edited}
 use Rattle.tree_build.specs.Resolved.{resolved}
-use Rattle.tree_revision.specs.Records.{PlainOp, complete, state, props, resize, stop, suspend, resume, PlainRecord}
+use Rattle.tree_revision.specs.Records.{PlainOp, complete, props, resize, stop, PlainRecord}
 
 -- a family: a tag, and the kind that it has for the life of the surface
-pub record PlainFamily : Type 0 where
-  pub tag : ℕ
-  pub kind : Kind
+abbrev pub PlainFamily : Type 0
+PlainFamily = record { tag : ℕ; kind : Kind }
 
 -- a surface's size, its forest, and the families of all tags that were ever mounted, in the order in which they came; a revision has no frames and no states of its own
-pub record PlainRevision : Type 0 where
-  pub size : Size
-  pub forest : PlainForest NodeFields
-  pub families : List PlainFamily
+abbrev pub PlainRevision : Type 0
+PlainRevision = record { size : Size; forest : PlainForest NodeFields; families : List PlainFamily }
 
 -- a surface before its first commit
 abbrev pub opening : Size → PlainRevision
@@ -29,15 +26,11 @@ abbrev pub kind_of_family : List PlainFamily → ℕ → Option Kind
 kind_of_family [] tag = None
 kind_of_family (family ∷ families) tag = if nat_eq family.tag tag then Some family.kind else kind_of_family families tag
 
--- families and that of a node, which comes last where it is new
-abbrev pub added_to : List PlainFamily → NodeFields → Option Kind → List PlainFamily
-added_to families fields None = families ++ (record { tag = fields.tag; kind = fields.kind }) ∷ []
-added_to families fields (Some kind) = families
-
--- the families, and those of these nodes that are new
+-- the families, and those of these nodes that are new, each of which comes last
 abbrev pub families_with : List PlainFamily → List NodeFields → List PlainFamily
 families_with families [] = families
-families_with families (fields ∷ others) = families_with (added_to families fields (kind_of_family families fields.tag)) others
+families_with families (fields ∷ others) =
+    families_with (if is_some (kind_of_family families fields.tag) then families else families ++ (record { tag = fields.tag; kind = fields.kind }) ∷ []) others
 
 -- a forest with a change of the nodes of that tag
 abbrev pub edited_at : ℕ → NodeEdit → PlainForest NodeFields → PlainForest NodeFields
@@ -45,30 +38,20 @@ edited_at tag change none = none
 edited_at tag change (node fields children siblings) =
     node (if nat_eq fields.tag tag then edited change fields else fields) (edited_at tag change children) (edited_at tag change siblings)
 
--- the revision with that forest, whose new tags become families
-abbrev pub with_forest : PlainRevision → PlainForest NodeFields → PlainRevision
-with_forest front forest = record { size = front.size; forest = forest; families = families_with front.families (preorder forest) }
-
--- the revision after a change of the front, by a caller that holds that revision
+-- the revision after a change of the front, by a caller that holds that revision; the new tags of a complete become families
 abbrev pub revision_after : PlainOp → (front held : PlainRevision) → PlainRevision
-revision_after (complete nodes) front held = with_forest front (resolved held.forest nodes)
-revision_after (state tag change) front held = front
-revision_after (props tag change) front held =
-    record { size = front.size; forest = edited_at tag change front.forest; families = front.families }
-revision_after (resize size) front held = record { size = size; forest = front.forest; families = front.families }
-revision_after stop front held = record { size = front.size; forest = none; families = front.families }
-revision_after suspend front held = front
-revision_after resume front held = front
+revision_after (complete nodes) front held =
+    record front { forest = resolved held.forest nodes; families = families_with front.families (preorder (resolved held.forest nodes)) }
+revision_after (props tag change) front held = record front { forest = edited_at tag change front.forest }
+revision_after (resize size) front held = record front { size = size }
+revision_after stop front held = record front { forest = none }
+revision_after _ front held = front
 
--- of revisions with the newest first, the one of that number; above the newest there is none, and it counts
-abbrev pub revision_at : Size → List PlainRevision → ℕ → PlainRevision
-revision_at size past number = slice_index_or past (length past - 1 - number) (opening size)
-
--- the revisions after more records, with the newest first
+-- the revisions after more records, with the newest first; each caller held the one of its number, and above the newest there is none, and it counts
 abbrev pub revisions_from : Size → List PlainRevision → List PlainRecord → List PlainRevision
 revisions_from size past [] = past
-revisions_from size past (entry ∷ entries) =
-    revisions_from size (revision_after entry.op (slice_index_or past 0 (opening size)) (revision_at size past entry.held) ∷ past) entries
+revisions_from size past (entry ∷ more) =
+    revisions_from size (revision_after entry.op (slice_index_or past 0 (opening size)) (slice_index_or past (length past - 1 - entry.held) (opening size)) ∷ past) more
 
 -- the revision of a list of records, on a surface of that first size
 abbrev pub revision_of : Size → List PlainRecord → PlainRevision

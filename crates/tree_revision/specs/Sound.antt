@@ -1,7 +1,7 @@
 -- The scripts that can be run: their names, surfaces, values, mounters and turns are sound.
 use Rattle.std.specs.Prelude.{ℕ, ◌+◌, ◌≤◌, ◌<◌, List, [], ◌∷◌, length, map, count_by, All, Bool, false, true, IsTrue, ◌&&◌, ◌||◌, nat_eq, nat_le, bytes_eq}
 use Rattle.std.specs.List.{list_all, list_any, IsDistinct}
-use Rattle.tree_revision.specs.Script.{PlainAct, commit, hold, mount, PlainActor, PlainSurface, PlainScript}
+use Rattle.tree_revision.specs.Script.{PlainAct, mount, PlainActor, PlainSurface, PlainScript}
 use Rattle.tree_revision.specs.InRange.{IsSurfaceInRange, IsStepInRange}
 
 -- a byte of a name: a lower-case ASCII letter, a digit, `_` or `-`
@@ -22,9 +22,8 @@ ids_of surfaces = map (λ surface. surface.id) surfaces
 
 -- a step that mounts
 abbrev pub is_mount : PlainAct → Bool
-is_mount (commit op) = false
-is_mount hold = false
 is_mount mount = true
+is_mount _ = false
 
 -- an actor has a step that mounts the surface of that id
 abbrev pub mounts_on : ℕ → PlainActor → Bool

@@ -4,7 +4,7 @@ use Rattle.std.specs.List.{AllByRecursion, IsDistinct}
 use Rattle.shadow_kinds.specs.declared.Kind.{Kind}
 use Rattle.shadow_node.specs.Forest.{preorder}
 use Rattle.shadow_node.specs.Fields.{tags_of}
-use Rattle.tree_revision.specs.InRange.{IsTagInRange}
+use Rattle.shadow_node.specs.InRange.{IsTagInRange}
 use Rattle.tree_revision.specs.Revisions.{PlainRevision, kind_of_family}
 
 -- the tags of a revision's forest differ and are in range, and each node's kind is that of its family

@@ -9,7 +9,8 @@ ghost use Rattle.tree_revision.specs.Newest.{change_of, newest_state};
 ghost use Rattle.tree_revision.specs.Mountable.{mountable_of};
 ghost use Rattle.tree_revision.specs.Lawful.{MayFollow, IsLawful};
 ghost use Rattle.tree_revision.specs.Tags.{HasSoundTags, KeepsFamilies};
-ghost use Rattle.tree_revision.specs.Stands.{PlainKept, StandsFor};
+ghost use Rattle.tree_revision.specs.Settled.{KeptRevision};
+ghost use Rattle.tree_revision.specs.Stands.{StandsFor};
 
 /// For every history, the number that may be mounted is at most its length, and never falls as more commits are admitted.
 pub fn mountable_never_falls()
@@ -46,8 +47,8 @@ pub fn families_stay()
 /// For every revision: it stands for at most one content, that is, the lists of records that it stands for are equally long,
 /// and have one size, one forest and the same families.
 pub fn revisions_stand_for_one_content()
-    ensures length { (first : Size) (newest mountable : PlainKept) (entries others : List PlainRecord) → StandsFor first newest mountable entries → StandsFor first newest mountable others → length entries ≡ length others }
-    ensures size { (first : Size) (newest mountable : PlainKept) (entries others : List PlainRecord) → StandsFor first newest mountable entries → StandsFor first newest mountable others → (revision_of first entries).size ≡ (revision_of first others).size }
-    ensures forest { (first : Size) (newest mountable : PlainKept) (entries others : List PlainRecord) → StandsFor first newest mountable entries → StandsFor first newest mountable others → (revision_of first entries).forest ≡ (revision_of first others).forest }
-    ensures families { (first : Size) (newest mountable : PlainKept) (entries others : List PlainRecord) → StandsFor first newest mountable entries → StandsFor first newest mountable others → (tag : ℕ) → kind_of_family (revision_of first entries).families tag ≡ kind_of_family (revision_of first others).families tag }
+    ensures length { (first : Size) (revision : KeptRevision) (entries others : List PlainRecord) → StandsFor first revision entries → StandsFor first revision others → length entries ≡ length others }
+    ensures size { (first : Size) (revision : KeptRevision) (entries others : List PlainRecord) → StandsFor first revision entries → StandsFor first revision others → (revision_of first entries).size ≡ (revision_of first others).size }
+    ensures forest { (first : Size) (revision : KeptRevision) (entries others : List PlainRecord) → StandsFor first revision entries → StandsFor first revision others → (revision_of first entries).forest ≡ (revision_of first others).forest }
+    ensures families { (first : Size) (revision : KeptRevision) (entries others : List PlainRecord) → StandsFor first revision entries → StandsFor first revision others → (tag : ℕ) → kind_of_family (revision_of first entries).families tag ≡ kind_of_family (revision_of first others).families tag }
 {}

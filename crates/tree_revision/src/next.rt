@@ -1,25 +1,26 @@
 //! The revision after a change.
 
-ghost use Rattle.std.specs.Prelude.{◌≡◌, ℕ, ◌+◌, ◌-◌, ◌≤◌, ◌<◌, ◌^◌, List, [], ◌∷◌, ◌++◌, length, take, IfOk, OnOk, IfErr};
+ghost use Rattle.std.specs.Prelude.{◌≡◌, ℕ, ◌+◌, ◌-◌, ◌≤◌, ◌<◌, ◌^◌, List, [], ◌∷◌, ◌++◌, length, take, Some, IfOk, IfSome, OnOk, IfErr, unwrap_or};
+ghost use Rattle.std.specs.Option.{option_map};
 ghost use Rattle.shadow_frame.specs.declared.Size.{Size as SurfaceSize};
-ghost use Rattle.native_state.specs.declared.StateCell.{StateCell};
-ghost use Rattle.native_state.specs.Made.{nodes_more};
-ghost use Rattle.shadow_node.specs.Forest.{node_count};
-ghost use Rattle.shadow_node.specs.Fields.{contents_of};
-ghost use Rattle.shadow_node.specs.Frames.{settled_forest};
-ghost use Rattle.tree_build.specs.Script.{script_forest};
-ghost use Rattle.tree_build.specs.Resolved.{resolved};
-ghost use Rattle.tree_revision.specs.FirstForm.{IsFirstTree, IsFirstOp, written_out};
-ghost use Rattle.tree_revision.specs.History.{HasContentOf};
-ghost use Rattle.tree_revision.specs.Records.{PlainRecord, plain_op, nodes_of};
-ghost use Rattle.tree_revision.specs.declared.next.PrepareRefusal.TheVariants.{Memory};
+ghost use Rattle.native_state.specs.Made.{raised};
+ghost use Rattle.tree_revision.specs.InRange.{IsOpInRange};
+ghost use Rattle.tree_revision.specs.Records.{PlainRecord, plain_op};
+ghost use Rattle.tree_revision.specs.Cancels.{cancel_of};
+ghost use Rattle.tree_revision.specs.Stands.{StandsFor};
+ghost use Rattle.tree_revision.specs.Prepared.{kept_next, mountable_next, made_first, made_then, families_most};
+ghost use Rattle.tree_revision.specs.Settled.{SettledRevision};
+ghost use Rattle.tree_revision.specs.Steps.{refusal_for};
+ghost use Rattle.tree_revision.specs.declared.record.Cancel.{Cancel as CancelValue};
+ghost use Rattle.tree_revision.specs.declared.next.PrepareRefusal.TheVariants.{Cancel as CancelRefusal, Memory};
 
+use crate::after::after;
 use crate::record::{Cancel, Op};
-use crate::revision::Revision;
+use crate::revision::{Content, Revision};
 use shadow_node::Made;
 use std::alloc::{AllocError, Global};
-use tree_build::{BuildRefusal, ScriptNode, build};
-use tree_settle::settle;
+use std::sync::Arc;
+use tree_build::BuildRefusal;
 
 /// Why a change leads to no revision.
 #[derive(Clone, Copy, Debug, PartialEq, Eq)]
@@ -38,36 +39,41 @@ impl From<AllocError> for PrepareRefusal {
     }
 }
 
-/// The revision after another forest, over the held one.
-fn complete(
-    alloc: Global,
-    made: &mut Made,
-    nodes: &[ScriptNode],
-    front: &Revision,
-    held: &Revision,
-) -> Result<Revision, AllocError>
-    requires number { front.now.number < 2 ^ 64 - 1 }
-    requires tree { IsFirstTree (script_forest nodes.now) }
-    ensures number { IfOk result (λ next. next.number ≡ front.now.number + 1) }
-    ensures size { IfOk result (λ next. next.size ≡ front.now.size) }
-    ensures forest { IfOk result (λ next. (newest : ℕ → StateCell) → next.forest ≡ settled_forest front.now.size newest (resolved (contents_of held.now.forest) (script_forest nodes.now))) }
-    ensures made { OnOk result (made.new ≡ nodes_more (nodes_more made.old (node_count (written_out (script_forest nodes.now)))) (node_count (written_out (script_forest nodes.now)))) }
+impl From<BuildRefusal> for PrepareRefusal {
+    ghost from_gives = { λ refusal result. result ≡ refusal_for refusal };
+
+    fn from(refusal: BuildRefusal) -> PrepareRefusal {
+        PrepareRefusal::Cancel(match refusal {
+            BuildRefusal::Unkept { tag } => Cancel::Unkept { tag },
+            BuildRefusal::ChildOfLeaf { tag } => Cancel::ChildOfLeaf { tag },
+            BuildRefusal::TwiceTag { tag } => Cancel::TwiceTag { tag },
+            BuildRefusal::TooDeep => Cancel::TooDeep,
+            BuildRefusal::TooManyNodes => Cancel::TooManyNodes,
+            BuildRefusal::Memory => return PrepareRefusal::Memory,
+        })
+    }
+}
+
+/// The content that mounting stands still at after a change of the front, where it does.
+fn still_after(alloc: Global, op: &Op, front: &Revision) -> Result<Option<Arc<Content>>, AllocError>
+    ensures mountable { IfOk result (λ still. (next : SettledRevision) → unwrap_or (option_map (λ content. content.value) still) next ≡ mountable_next (plain_op op.now) front.now next) }
+    ensures older { IfOk result (λ still. IfSome still (λ content. content.value.number ≤ front.now.newest.number)) }
 {
-    let Ok(built) = build(alloc, made, nodes, &held.forest) else {
-        return Err(AllocError);
-    };
-    let size = front.size;
-    let forest = settle(alloc, made, &built, size)?;
-    Ok(Revision {
-        number: front.number + 1,
-        size,
-        forest,
-    })
+    match (op, &front.still) {
+        (Op::Resume, _) => Ok(None),
+        (Op::Suspend, None) => Ok(Some(Arc::new(alloc, front.content.share()?)?)),
+        (_, None) => Ok(None),
+        (_, Some(still)) => Ok(Some(Arc::try_clone(still)?)),
+    }
 }
 
 /// The settled revision after a change of the front, by a caller that holds that revision.
 ///
-/// So far a change is a complete of written views, and nothing cancels it.
+/// The front stands for a list of records, and the held revision for the first of them. The next
+/// one stands for that list and one more record, exactly where nothing cancels the change there;
+/// else the cause is answered. On success `made` rises by the nodes that are made for the change
+/// and by those that settling makes, and by at most 65 families for a change of state and for each
+/// new tag.
 pub fn prepare(
     alloc: Global,
     made: &mut Made,
@@ -75,20 +81,16 @@ pub fn prepare(
     front: &Revision,
     held: &Revision,
 ) -> Result<Revision, PrepareRefusal>
-    requires number { front.now.number < 2 ^ 64 - 1 }
-    requires op { IsFirstOp (plain_op op.now) }
-    ensures number { IfOk result (λ next. next.number ≡ front.now.number + 1) }
-    ensures next { IfOk result (λ next. (first : SurfaceSize) (entries : List PlainRecord) (entry : PlainRecord) → HasContentOf first front.now entries → entry.held ≤ length entries → HasContentOf first held.now (take entry.held entries) → entry.op ≡ plain_op op.now → HasContentOf first next (entries ++ entry ∷ [])) }
-    ensures made { OnOk result (made.new ≡ nodes_more (nodes_more made.old (node_count (written_out (nodes_of (plain_op op.now))))) (node_count (written_out (nodes_of (plain_op op.now))))) }
-    ensures refused { IfErr result (λ refusal. refusal ≡ Memory) }
+    requires op { IsOpInRange (plain_op op.now) }
+    requires number { front.now.newest.number < 2 ^ 64 - 1 }
+    ensures value { IfOk result (λ next. next ≡ kept_next (plain_op op.now) front.now held.now) }
+    ensures next { IfOk result (λ next. (first : SurfaceSize) (entries : List PlainRecord) (entry : PlainRecord) → StandsFor first front.now entries → entry.held ≤ length entries → StandsFor first held.now (take entry.held entries) → entry.op ≡ plain_op op.now → StandsFor first next (entries ++ entry ∷ [])) }
+    ensures cancelled { IfErr result (λ refusal. (cause : CancelValue) → refusal ≡ CancelRefusal cause → (first : SurfaceSize) (entries : List PlainRecord) (number : ℕ) → StandsFor first front.now entries → StandsFor first held.now (take number entries) → cancel_of first (plain_op op.now) entries number ≡ Some cause) }
+    ensures nodes { OnOk result (made.new.nodes ≡ raised (raised made.old.nodes (made_first (plain_op op.now) front.now.newest)) (made_then (plain_op op.now) front.now.newest held.now.newest)) }
+    ensures families { OnOk result (made.old.families ≤ made.new.families) }
+    ensures families_most { OnOk result (made.new.families ≤ made.old.families + families_most (plain_op op.now) front.now.newest held.now.newest) }
 {
-    match op {
-        Op::Complete { nodes } => Ok(complete(alloc, made, nodes.as_slice(), front, held)?),
-        Op::State { .. } => unreachable!(),
-        Op::Props { .. } => unreachable!(),
-        Op::Size { .. } => unreachable!(),
-        Op::Stop => unreachable!(),
-        Op::Suspend => unreachable!(),
-        Op::Resume => unreachable!(),
-    }
+    let content = after(alloc, made, op, &front.content, &held.content)?;
+    let still = still_after(alloc, op, front)?;
+    Ok(Revision { content, still })
 }

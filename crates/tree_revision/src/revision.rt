@@ -1,46 +1,91 @@
 //! A revision of a surface.
 
 ghost use Rattle.std.specs.Prelude.{◌≡◌, [], IfOk};
+ghost use Rattle.std.specs.FinMap as map;
 ghost use Rattle.shadow_node.specs.Forest.{none};
 ghost use Rattle.tree_settle.specs.Limits.{IsSizeInRange, IsForestInLimits};
-ghost use Rattle.tree_revision.specs.History.{HasContentOf};
+ghost use Rattle.tree_revision.specs.Stands.{StandsFor};
 
+use native_state::FamilyTable;
 use shadow_frame::Size;
 use shadow_node::Forest;
 use std::alloc::{AllocError, Global};
 use std::marker::Model;
+use std::sync::Arc;
 
-/// A surface after some number of commits: its size, and its forest with each node's state and frame.
+/// What a revision is made of.
 #[derive(Drop)]
-pub struct Revision {
+pub(crate) struct Content {
     pub(crate) number: u64,
     pub(crate) size: Size,
     pub(crate) forest: Forest,
+    pub(crate) families: FamilyTable,
 }
 
-impl Model for Revision {
+impl Model for Content {
     ghost use Rattle.tree_revision.specs.Settled.{SettledRevision, coded_revision, IsWithinLimits};
 
     ghost Value = { SettledRevision };
 
     ghost coded = { coded_revision };
 
-    ghost view = { λ r. record { number = r.number; size = r.size; forest = r.forest } };
+    ghost view = { λ c. record { number = c.number; size = c.size; forest = c.forest; families = c.families } };
 
-    ghost invariant = { λ r. IsWithinLimits (record { number = r.number; size = r.size; forest = r.forest }) };
+    ghost invariant = { λ c. IsWithinLimits (record { number = c.number; size = c.size; forest = c.forest; families = c.families }) };
+}
+
+impl Content {
+    /// The same content, shared.
+    pub(crate) fn share(&self) -> Result<Content, AllocError>
+        ensures { IfOk result (λ content. content ≡ self.now) }
+    {
+        Ok(Content {
+            number: self.number,
+            size: self.size,
+            forest: self.forest.share()?,
+            families: self.families.share()?,
+        })
+    }
+}
+
+/// A surface after some number of commits: its size, its forest with each node's state and frame,
+/// and the family of each tag that was ever mounted. It keeps the revision that may be mounted too.
+#[derive(Drop)]
+pub struct Revision {
+    pub(crate) content: Content,
+    /// The revision before mounting was suspended, where it is.
+    pub(crate) still: Option<Arc<Content>>,
+}
+
+impl Model for Revision {
+    ghost use Rattle.std.specs.Prelude.{◌<◌, IfSome, unwrap_or};
+    ghost use Rattle.std.specs.Option.{option_map};
+    ghost use Rattle.tree_revision.specs.Settled.{KeptRevision, coded_kept};
+
+    ghost Value = { KeptRevision };
+
+    ghost coded = { coded_kept };
+
+    ghost view = { λ r. record { newest = r.content; mountable = unwrap_or (option_map (λ still. still.value) r.still) r.content } };
+
+    ghost invariant = { λ r. IfSome r.still (λ still. still.value.number < r.content.number) };
 }
 
 impl Revision {
-    /// A surface of that size before its first commit: number 0, and an empty forest.
-    pub fn opening(_alloc: Global, size: Size) -> Result<Revision, AllocError>
+    /// A surface of that size before its first commit: number 0, an empty forest, and no families.
+    pub fn opening(alloc: Global, size: Size) -> Result<Revision, AllocError>
         requires { IsSizeInRange size }
-        ensures value { IfOk result (λ first. first ≡ record { number = 0; size = size; forest = none }) }
-        ensures stands { IfOk result (λ first. HasContentOf size first []) }
+        ensures value { IfOk result (λ first. first ≡ record { newest = record { number = 0; size = size; forest = none; families = map.empty }; mountable = record { number = 0; size = size; forest = none; families = map.empty } }) }
+        ensures stands { IfOk result (λ first. StandsFor size first []) }
     {
         Ok(Revision {
-            number: 0,
-            size,
-            forest: Forest::empty(),
+            content: Content {
+                number: 0,
+                size,
+                forest: Forest::empty(),
+                families: FamilyTable::empty(alloc)?,
+            },
+            still: None,
         })
     }
 
@@ -48,32 +93,56 @@ impl Revision {
     pub fn share(&self) -> Result<Revision, AllocError>
         ensures { IfOk result (λ revision. revision ≡ self.now) }
     {
+        let still = match &self.still {
+            Some(still) => Some(Arc::try_clone(still)?),
+            None => None,
+        };
         Ok(Revision {
-            number: self.number,
-            size: self.size,
-            forest: self.forest.share()?,
+            content: self.content.share()?,
+            still,
+        })
+    }
+
+    /// The revision that may be mounted: the same one, or the one before mounting was suspended.
+    pub fn mountable(&self) -> Result<Revision, AllocError>
+        ensures { IfOk result (λ revision. revision ≡ record { newest = self.now.mountable; mountable = self.now.mountable }) }
+    {
+        let content = match &self.still {
+            Some(still) => still.share()?,
+            None => self.content.share()?,
+        };
+        Ok(Revision {
+            content,
+            still: None,
         })
     }
 
     /// How many commits were admitted before it.
     pub fn number(&self) -> u64
-        ensures { result ≡ self.now.number }
+        ensures { result ≡ self.now.newest.number }
     {
-        self.number
+        self.content.number
     }
 
     /// The surface's size.
     pub fn size(&self) -> Size
-        ensures { result ≡ self.now.size }
+        ensures { result ≡ self.now.newest.size }
     {
-        self.size
+        self.content.size
     }
 
     /// The nodes.
     pub fn forest(&self) -> &Forest
-        ensures forest { result.now ≡ self.now.forest }
+        ensures forest { result.now ≡ self.now.newest.forest }
         ensures limits { IsForestInLimits result.now }
     {
-        &self.forest
+        &self.content.forest
+    }
+
+    /// The families of all tags that were ever mounted.
+    pub fn families(&self) -> &FamilyTable
+        ensures { result.now ≡ self.now.newest.families }
+    {
+        &self.content.families
     }
 }

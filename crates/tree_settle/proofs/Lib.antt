@@ -1,3 +1,4 @@
 pub mod Settled
-pub mod Walk
-pub mod Contents
+pub mod Lists
+pub mod Stays
+pub mod Steps

@@ -9,7 +9,8 @@ use Rattle.shadow_node.specs.Forest.{PlainForest}
 use Rattle.shadow_node.specs.Fields.{SettledFields, contents_of, tags_of}
 use Rattle.host_views.specs.Plain.{PlainPlacedView, PlainHostTree, host_tags}
 use Rattle.host_views.specs.HostTree.{has_tag, IsPlacedIn, IsHostTree}
-use Rattle.view_flatten.specs.HostTree.{host_parent, is_child_of, view_of, by_z, placed_below, views_below, viewed, host_tree_of}
+use Rattle.view_flatten.specs.HostTree.{host_parent, view_of, by_z, placed_below, views_below, viewed, host_tree_of}
+use Rattle.view_flatten.proofs.Shorthands.{is_child_of}
 use Rattle.view_flatten.proofs.Distinct.{not_among, distinct_more, distinct_both, distinct_none, not_in_both, each_in_both, each_in_first, each_in_second, each_then, each_of_two}
 use Rattle.view_flatten.proofs.Order.{tag_at, tags_at, each_kept, each_passes, each_by_z, each_placed, tags_placed, distinct_kept, distinct_by_z}
 use Rattle.view_flatten.proofs.Lines.{IsLined, line_of_tag, viewed_lined, viewed_distinct}

@@ -7,7 +7,8 @@ use Rattle.std.proofs.lemmas.Map.Keys.{IsDistinct-head, IsDistinct-tail}
 use Rattle.shadow_node.specs.Forest.{PlainForest, none, node, preorder}
 use Rattle.shadow_node.specs.Fields.{SettledFields, contents_of, tags_of}
 use Rattle.shadow_node.specs.Shown.{Descendant, descendants, descendants_below}
-use Rattle.view_flatten.specs.HostTree.{is_context, host_parent, has_view, viewed}
+use Rattle.view_flatten.specs.HostTree.{host_parent, viewed}
+use Rattle.view_flatten.proofs.Shorthands.{is_context, has_view}
 use Rattle.view_flatten.proofs.Distinct.{each_in_first, each_in_second, each_in_both}
 use Rattle.view_flatten.proofs.Order.{tag_at, tags_at, each_kept, distinct_kept}
 
@@ -72,7 +73,7 @@ ancestors_lined line above (node settled children siblings) h own =
     )
 
 -- the tags of the nodes in preorder
-tags_below : (above : List SettledFields) (forest : PlainForest SettledFields) → tags_at (descendants_below above forest) ≡ tags_of (contents_of forest)
+pub tags_below : (above : List SettledFields) (forest : PlainForest SettledFields) → tags_at (descendants_below above forest) ≡ tags_of (contents_of forest)
 tags_below above none = refl
 tags_below above (node settled children siblings) =
     ap (λ rest. settled.fields.tag ∷ rest)

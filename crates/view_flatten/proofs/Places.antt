@@ -10,7 +10,8 @@ use Rattle.shadow_node.specs.Forest.{PlainForest, none, node}
 use Rattle.shadow_node.specs.Fields.{SettledFields}
 use Rattle.shadow_node.specs.Shown.{Descendant, descendants, descendants_below, is_shown}
 use Rattle.host_views.specs.Plain.{PlainPlacedView, PlainHostTree}
-use Rattle.view_flatten.specs.HostTree.{is_context, host_parent, has_view, viewed, is_child_of, view_of, put_by_z, by_z, placed_from, placed_below, views_below, host_tree_of}
+use Rattle.view_flatten.specs.HostTree.{host_parent, viewed, view_of, put_by_z, by_z, placed_from, placed_below, views_below, host_tree_of}
+use Rattle.view_flatten.proofs.Shorthands.{is_context, has_view, is_child_of}
 use Rattle.view_flatten.specs.Places.{HasItsPlace, IsOfOne}
 use Rattle.view_flatten.proofs.Distinct.{each_in_both, each_in_first, each_in_second, each_then, each_of_two}
 use Rattle.view_flatten.proofs.Order.{tag_at, each_kept, each_passes, each_by_z, each_placed}

@@ -7,12 +7,13 @@ use Rattle.shadow_node.specs.Fields.{NodeFields, SettledFields, contents_of}
 use Rattle.shadow_node.specs.Shown.{Descendant, descendants, descendants_below}
 use Rattle.host_views.specs.declared.HostView.{HostView}
 use Rattle.host_views.specs.Plain.{PlainPlacedView, PlainHostTree}
-use Rattle.view_flatten.specs.HostTree.{is_child_of, has_view, view_of, viewed, by_z, placed_below, views_below, host_tree_of}
+use Rattle.view_flatten.specs.HostTree.{view_of, viewed, by_z, placed_below, views_below, host_tree_of}
+use Rattle.view_flatten.proofs.Shorthands.{is_child_of, has_view}
 use Rattle.view_flatten.proofs.Distinct.{each_in_both, each_in_first, each_in_second, each_then}
 use Rattle.view_flatten.proofs.Order.{tag_at, each_kept, each_by_z, each_placed}
 
 -- of the children of a host parent
-each_child : (P : ℕ → HostView → Type 0) (nodes : List Descendant) (parent : ℕ) → AllByRecursion (λ here. P (tag_at here) (view_of here)) nodes
+pub each_child : (P : ℕ → HostView → Type 0) (nodes : List Descendant) (parent : ℕ) → AllByRecursion (λ here. P (tag_at here) (view_of here)) nodes
     → AllByRecursion (λ placed. P placed.tag placed.view) (placed_below nodes parent)
 each_child P nodes parent h =
     let own = λ (here : Descendant). P (tag_at here) (view_of here) in

@@ -1,5 +1,5 @@
 -- The host tree of a forest: which nodes have a view, and where it stands.
-use Rattle.std.specs.Prelude.{ℕ, zero, suc, ◌+◌, ◌+ℤ◌, List, [], ◌∷◌, length, Bool, ◌&&◌, nat_eq, int_lt, if◌then◌else◌, filter}
+use Rattle.std.specs.Prelude.{ℕ, zero, suc, ◌+◌, ◌+ℤ◌, List, [], ◌∷◌, length, ◌&&◌, nat_eq, int_lt, if◌then◌else◌, filter}
 use Rattle.std.specs.List.{flat_map}
 use Rattle.shadow_frame.specs.declared.Point.{Point}
 use Rattle.shadow_kinds.specs.Axes.{z_order_of}
@@ -10,14 +10,10 @@ use Rattle.shadow_node.specs.Shown.{Descendant, descendants, is_shown}
 use Rattle.host_views.specs.declared.HostView.{HostView}
 use Rattle.host_views.specs.Plain.{PlainHostTree}
 
--- a node that forms a context
-abbrev pub is_context : SettledFields → Bool
-is_context settled = forms_context_of settled.fields.kind settled.fields.props
-
 -- the host parent below some ancestors, the nearest first: the nearest one that forms a context, at last the root, 0
 abbrev pub host_parent : List SettledFields → ℕ
 host_parent [] = 0
-host_parent (parent ∷ above) = if is_context parent then parent.fields.tag else host_parent above
+host_parent (parent ∷ above) = if forms_context_of parent.fields.kind parent.fields.props then parent.fields.tag else host_parent above
 
 -- one place moved by another
 abbrev pub moved : Point → Point → Point
@@ -26,29 +22,18 @@ moved a b = record { x = a.x +ℤ b.x; y = a.y +ℤ b.y }
 -- where a node begins in its host parent: the sum of the frame origins of the node and of its ancestors below that parent
 abbrev pub host_origin : SettledFields → List SettledFields → Point
 host_origin settled [] = settled.frame.origin
-host_origin settled (parent ∷ above) = if is_context parent then settled.frame.origin else moved (host_origin parent above) settled.frame.origin
+host_origin settled (parent ∷ above) =
+    if forms_context_of parent.fields.kind parent.fields.props then settled.frame.origin else moved (host_origin parent above) settled.frame.origin
 
 -- the view of a node
 abbrev pub view_of : Descendant → HostView
-view_of here = record {
-  kind = here.settled.fields.kind;
-  props = here.settled.fields.props;
-  label = here.settled.fields.label;
-  state = here.settled.state;
-  frame = record { origin = host_origin here.settled here.above; size = here.settled.frame.size };
-}
+view_of here =
+    let fields = here.settled.fields in let frame = record here.settled.frame { origin = host_origin here.settled here.above } in
+    record { kind = fields.kind; props = fields.props; label = fields.label; state = here.settled.state; frame = frame }
 
--- a node has a view where it forms one and is shown
-abbrev pub has_view : Descendant → Bool
-has_view here = forms_view_of here.settled.fields.kind here.settled.fields.props && is_shown here
-
--- the nodes of a forest that have a view, in preorder
+-- the nodes of a forest that have a view, in preorder: those that form one and are shown
 abbrev pub viewed : PlainForest SettledFields → List Descendant
-viewed forest = filter has_view (descendants forest)
-
--- a node's view is a child of that host parent
-abbrev pub is_child_of : ℕ → Descendant → Bool
-is_child_of parent here = nat_eq (host_parent here.above) parent
+viewed forest = filter (λ here. forms_view_of here.settled.fields.kind here.settled.fields.props && is_shown here) (descendants forest)
 
 -- a node among others that go by z: before the first with a greater or an equal z, since it comes before them in preorder
 abbrev pub put_by_z : Descendant → List Descendant → List Descendant
@@ -69,7 +54,7 @@ placed_from parent index (here ∷ others) =
 
 -- of nodes that have a view, the children of a host parent, in their order
 abbrev pub placed_below : List Descendant → ℕ → PlainHostTree
-placed_below nodes parent = placed_from parent 0 (by_z (filter (is_child_of parent) nodes))
+placed_below nodes parent = placed_from parent 0 (by_z (filter (λ here. nat_eq (host_parent here.above) parent) nodes))
 
 -- the views below a host parent, down to so many levels: each child, and then those below it
 abbrev pub views_below : (levels : ℕ) → List Descendant → ℕ → PlainHostTree

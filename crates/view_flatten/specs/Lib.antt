@@ -1,3 +1,4 @@
 pub mod HostTree
-pub mod Walk
+pub mod Placing
 pub mod Places
+pub mod Spots

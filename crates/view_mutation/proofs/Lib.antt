@@ -1,6 +1,6 @@
 pub mod Lists
 pub mod Index
-pub mod Root
+pub mod Five
 pub mod Shows
 pub mod Leading
 pub mod Still
@@ -8,3 +8,4 @@ pub mod Trees
 pub mod Kept
 pub mod Parts
 pub mod Whole
+pub mod NoNode

@@ -7,7 +7,8 @@ use Rattle.host_views.specs.HostTree.{IsHostTree, has_tag}
 use Rattle.host_views.specs.Plain.{PlainPlacedView, PlainHostTree, PlainMutation, create, delete, update, host_tags, children_at}
 use Rattle.host_views.specs.Same.{is_same_view}
 use Rattle.host_views.proofs.Same.{same_views}
-use Rattle.view_mutation.specs.Mutations.{view_at, is_other_view, host_parents, staying, removes_at, inserts_at, deletes, creates, updates}
+use Rattle.view_mutation.specs.Mutations.{view_at, is_other_view, staying, removes_at, inserts_at}
+use Rattle.view_mutation.specs.Shorthands.{host_parents, deletes, creates, updates}
 use Rattle.view_mutation.specs.Leads.{HaveOneKind}
 use Rattle.view_mutation.proofs.Index.{has_tag_by_view}
 use Rattle.view_mutation.proofs.Shows.{changed, IsParent, created, deleted, updated}

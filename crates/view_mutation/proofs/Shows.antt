@@ -13,7 +13,7 @@ use Rattle.std.proofs.lemmas.Bool.{cases_eq, eq-eqb, ne_eqb}
 use Rattle.std.proofs.lemmas.Bool.Decides.{nat_tests}
 use Rattle.host_views.specs.declared.HostView.{HostView}
 use Rattle.host_views.specs.Plain.{create, delete, insert, remove, update}
-use Rattle.host_views.specs.Registry.{ShownView, PlainRegistry, Fits, after_mutation, changed_at, with_children, children_in, is_child_of, IsNoChild}
+use Rattle.host_views.specs.Registry.{ShownView, PlainRegistry, Fits, after_mutation, changed_at, with_children, children_in, IsNoChild}
 
 -- a function with another value at one place
 abbrev pub changed : {X : Type 0} → (ℕ → X) → ℕ → X → ℕ → X
@@ -123,7 +123,7 @@ pub no_child : (registry : PlainRegistry) (views : ℕ → Option HostView) (chi
 no_child registry views children tag s apart parent =
     let below : (o : Option HostView) (kids : List ℕ) → list_any (nat_eq tag) kids ≡ false → list_any (nat_eq tag) (unwrap_or (option_map (λ shown. shown.children) (shown_of o kids)) []) ≡ false =
     elim [ None ↦ λ kids e. refl | Some view ↦ λ kids e. e ] in
-    elim (cases_eq parent 0) as (λ c. is_child_of registry parent tag ≡ false) [
+    elim (cases_eq parent 0) as (λ c. list_any (nat_eq tag) (unwrap_or (children_in registry parent) []) ≡ false) [
       | inl root ↦ rw (root, s.root) (apart 0)
       | inr other ↦ rw (ne_eqb parent 0 other, s.shown parent) (below (views parent) (children parent) (apart parent))
     ]

@@ -7,7 +7,8 @@ use Rattle.std.proofs.lemmas.Map.Keys.{IsDistinct-head, IsDistinct-tail, IsDisti
 use Rattle.host_views.specs.declared.HostView.{HostView}
 use Rattle.host_views.specs.HostTree.{IsHostTree, IsPlacedIn, has_tag}
 use Rattle.host_views.specs.Plain.{PlainPlacedView, PlainHostTree, host_tags, children_at}
-use Rattle.view_mutation.specs.Mutations.{view_at, host_parents}
+use Rattle.view_mutation.specs.Mutations.{view_at}
+use Rattle.view_mutation.specs.Shorthands.{host_parents}
 use Rattle.view_flatten.proofs.Distinct.{not_among}
 use Rattle.view_mutation.proofs.Leading.{AreNew}
 use Rattle.view_mutation.proofs.Shows.{IsParent}

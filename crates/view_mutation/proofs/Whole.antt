@@ -8,7 +8,8 @@ use Rattle.host_views.specs.declared.HostView.{HostView}
 use Rattle.host_views.specs.HostTree.{IsHostTree}
 use Rattle.host_views.specs.Plain.{PlainPlacedView, PlainHostTree, children_at, host_tags}
 use Rattle.host_views.specs.Registry.{PlainRegistry, ShownView, registry_of}
-use Rattle.view_mutation.specs.Mutations.{view_at, host_parents, removes_at, inserts_at, deletes, creates, updates, mutations_between}
+use Rattle.view_mutation.specs.Mutations.{view_at, removes_at, inserts_at, mutations_between}
+use Rattle.view_mutation.specs.Shorthands.{host_parents, deletes, creates, updates}
 use Rattle.view_mutation.specs.Leads.{HaveOneKind, LeadOn}
 use Rattle.view_mutation.proofs.Shows.{Shows, shown_of, tie}
 use Rattle.view_mutation.proofs.Leading.{LeadTo, lead_both}

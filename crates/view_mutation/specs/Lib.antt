@@ -1,3 +1,5 @@
 pub mod Mutations
 pub mod Lookups
 pub mod Leads
+pub mod Children
+pub mod Shorthands

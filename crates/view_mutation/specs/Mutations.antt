@@ -6,15 +6,10 @@ use Rattle.host_views.specs.Plain.{PlainHostTree, PlainMutation, create, delete,
 use Rattle.host_views.specs.Same.{is_same_view}
 use Rattle.host_views.specs.HostTree.{has_tag}
 
--- the host parents of a tree: the root, and then each view in host preorder
-abbrev pub host_parents : PlainHostTree → List ℕ
-host_parents tree = 0 ∷ host_tags tree
-
 -- how long the longest equal prefix of two lists is
 abbrev pub common_prefix : List ℕ → List ℕ → ℕ
-common_prefix [] ys = 0
-common_prefix (x ∷ xs) [] = 0
 common_prefix (x ∷ xs) (y ∷ ys) = if nat_eq x y then common_prefix xs ys + 1 else 0
+common_prefix _ _ = 0
 
 -- how many children of a host parent stay: the longest prefix of its children that is equal in both trees
 abbrev pub staying : (old new : PlainHostTree) → ℕ → ℕ
@@ -48,23 +43,13 @@ abbrev pub is_other_view : Option HostView → HostView → Bool
 is_other_view None view = false
 is_other_view (Some was) view = not (is_same_view was view)
 
--- deletes of the tags of the old tree that are not in the new one, in old host preorder
-abbrev pub deletes : (old new : PlainHostTree) → List PlainMutation
-deletes old new = map (λ placed. delete placed.tag) (filter (λ placed. not (has_tag new placed.tag)) old)
-
--- creates of the tags of the new tree that are not in the old one, in new host preorder
-abbrev pub creates : (old new : PlainHostTree) → List PlainMutation
-creates old new = map (λ placed. create placed.tag placed.view) (filter (λ placed. not (has_tag old placed.tag)) new)
-
--- updates of the tags in both whose views differ, in new host preorder
-abbrev pub updates : (old new : PlainHostTree) → List PlainMutation
-updates old new = map (λ placed. update placed.tag placed.view) (filter (λ placed. is_other_view (view_at old placed.tag) placed.view) new)
-
--- what leads from one host tree to another: removes, deletes, creates, updates, inserts
+-- what leads from one host tree to another: removes at the host parents of the old tree, the root first and then each view in host preorder; deletes of the tags
+-- of the old tree that are not in the new one, in old host preorder; creates of the tags of the new tree that are not in the old one, and updates of the tags
+-- in both whose views differ, in new host preorder; and inserts at the host parents of the new tree
 abbrev pub mutations_between : (old new : PlainHostTree) → List PlainMutation
 mutations_between old new =
-    flat_map (removes_at old new) (host_parents old)
-    ++ deletes old new
-    ++ creates old new
-    ++ updates old new
-    ++ flat_map (inserts_at old new) (host_parents new)
+    flat_map (removes_at old new) (0 ∷ host_tags old)
+    ++ map (λ placed. delete placed.tag) (filter (λ placed. not (has_tag new placed.tag)) old)
+    ++ map (λ placed. create placed.tag placed.view) (filter (λ placed. not (has_tag old placed.tag)) new)
+    ++ map (λ placed. update placed.tag placed.view) (filter (λ placed. is_other_view (view_at old placed.tag) placed.view) new)
+    ++ flat_map (inserts_at old new) (0 ∷ host_tags new)

@@ -1,65 +1,169 @@
-//! Removes and inserts: the children of the root.
+//! Removes and inserts: the children of each host parent.
 
-ghost use Rattle.std.specs.Prelude.{◌≡◌, ◌≤◌, length, map, drop, OnOk};
-ghost use Rattle.host_views.specs.Plain.{host_tags, plain_placed};
+ghost use Rattle.std.specs.Prelude.{◌≡◌, ◌≤◌, ◌++◌, ℕ, [], ◌∷◌, length, map, drop, IfOk, OnOk};
+ghost use Rattle.std.specs.List.{flat_map};
+ghost use Rattle.host_views.specs.Plain.{children_at, host_tags, plain_placed};
 ghost use Rattle.view_mutation.specs.Mutations.{common_prefix, inserts_from, removes_from};
+ghost use Rattle.view_mutation.specs.Children.{AreFew, inserts_by, listed, removes_by};
 ghost use Rattle.view_mutation.specs.Lookups.{IsListed};
 
 use host_views::{Mutation, PlacedView};
 use sqlite_items::Items;
-use std::alloc::AllocError;
+use std::alloc::{AllocError, Global};
+use std::collections::BTreeMap;
 
-/// How many views at the begin of both lists have the same tags.
-pub fn staying(old: &[PlacedView], new: &[PlacedView]) -> usize
-    ensures prefix { result ≡ common_prefix (host_tags (map plain_placed old.now)) (host_tags (map plain_placed new.now)) }
+/// The tags of each host parent's children, in their order.
+pub type Children = BTreeMap<u32, Vec<u32>>;
+
+/// Adds a view to the children of its host parent, as the last one.
+fn add_child(children: &mut Children, placed: &PlacedView) -> Result<(), AllocError>
+    ensures { OnOk result ((parent : ℕ) → listed children.new parent ≡ listed children.old parent ++ children_at (plain_placed placed.now ∷ []) parent) }
+{
+    children
+        .entry(placed.parent)?
+        .or_default()
+        .push(placed.tag)?;
+    Ok(())
+}
+
+/// The children of each host parent of a tree.
+pub fn children_of(alloc: Global, views: &[PlacedView]) -> Result<Children, AllocError>
+    ensures { IfOk result (λ children. (parent : ℕ) → listed children parent ≡ children_at (map plain_placed views.now) parent) }
+{
+    let mut children = BTreeMap::new(alloc);
+    for placed in views {
+        add_child(&mut children, placed)?;
+    }
+    Ok(children)
+}
+
+/// The children of a host parent; one that the tree does not have has none.
+fn tags_at(children: &Children, parent: u32) -> &[u32]
+    ensures { result.now ≡ listed children.now parent }
+{
+    match children.get(&parent) {
+        Some(tags) => tags.as_slice(),
+        None => &[],
+    }
+}
+
+/// How many tags at the begin of both lists are the same.
+fn staying(old: &[u32], new: &[u32]) -> usize
+    ensures prefix { result ≡ common_prefix old.now new.now }
     ensures old { result ≤ length old.now }
     ensures new { result ≤ length new.now }
 {
     let shorter = old.len().min(new.len());
     for at in 0..shorter {
-        if old[at].tag != new[at].tag {
+        if old[at] != new[at] {
             return at;
         }
     }
     shorter
 }
 
-/// Adds removes of all views from that index on, the last one first.
-pub fn add_removes(
+/// Adds removes of a host parent's children from that index on, the last one first.
+fn add_removes_from(
     list: &mut Items<Mutation>,
-    old: &[PlacedView],
+    parent: u32,
+    tags: &[u32],
     stay: usize,
 ) -> Result<(), AllocError>
-    requires stay { stay ≤ length old.now }
-    requires count { length old.now ≤ 2000 }
-    ensures { OnOk result (IsListed list.old (removes_from 0 stay (host_tags (map plain_placed (drop stay old.now)))) list.new) }
+    requires stay { stay ≤ length tags.now }
+    requires count { length tags.now ≤ 2000 }
+    ensures { OnOk result (IsListed list.old (removes_from parent stay (drop stay tags.now)) list.new) }
 {
-    for at in (stay..old.len()).rev() {
+    for at in (stay..tags.len()).rev() {
         list.push(Mutation::Remove {
-            parent: 0,
-            tag: old[at].tag,
+            parent,
+            tag: tags[at],
             index: at as u32,
         })?;
     }
     Ok(())
 }
 
-/// Adds inserts of all views from that index on.
-pub fn add_inserts(
+/// Adds the removes at one host parent: its old children after those that stay.
+fn add_removes_at(
     list: &mut Items<Mutation>,
-    new: &[PlacedView],
+    old: &Children,
+    new: &Children,
+    parent: u32,
+) -> Result<(), AllocError>
+    requires { AreFew (listed old.now) }
+    ensures { OnOk result (IsListed list.old (removes_by (listed old.now) (listed new.now) parent) list.new) }
+{
+    let tags = tags_at(old, parent);
+    let stay = staying(tags, tags_at(new, parent));
+    add_removes_from(list, parent, tags, stay)
+}
+
+/// Adds the removes at each host parent of the old tree.
+pub fn add_removes(
+    list: &mut Items<Mutation>,
+    views: &[PlacedView],
+    old: &Children,
+    new: &Children,
+) -> Result<(), AllocError>
+    requires { AreFew (listed old.now) }
+    ensures { OnOk result (IsListed list.old (flat_map (removes_by (listed old.now) (listed new.now)) (0 ∷ host_tags (map plain_placed views.now))) list.new) }
+{
+    add_removes_at(list, old, new, 0)?;
+    for placed in views {
+        add_removes_at(list, old, new, placed.tag)?;
+    }
+    Ok(())
+}
+
+/// Adds inserts of a host parent's children from that index on.
+fn add_inserts_from(
+    list: &mut Items<Mutation>,
+    parent: u32,
+    tags: &[u32],
     stay: usize,
 ) -> Result<(), AllocError>
-    requires stay { stay ≤ length new.now }
-    requires count { length new.now ≤ 2000 }
-    ensures { OnOk result (IsListed list.old (inserts_from 0 stay (host_tags (map plain_placed (drop stay new.now)))) list.new) }
+    requires stay { stay ≤ length tags.now }
+    requires count { length tags.now ≤ 2000 }
+    ensures { OnOk result (IsListed list.old (inserts_from parent stay (drop stay tags.now)) list.new) }
 {
-    for at in stay..new.len() {
+    for at in stay..tags.len() {
         list.push(Mutation::Insert {
-            parent: 0,
-            tag: new[at].tag,
+            parent,
+            tag: tags[at],
             index: at as u32,
         })?;
+    }
+    Ok(())
+}
+
+/// Adds the inserts at one host parent: its new children after those that stay.
+fn add_inserts_at(
+    list: &mut Items<Mutation>,
+    old: &Children,
+    new: &Children,
+    parent: u32,
+) -> Result<(), AllocError>
+    requires { AreFew (listed new.now) }
+    ensures { OnOk result (IsListed list.old (inserts_by (listed old.now) (listed new.now) parent) list.new) }
+{
+    let tags = tags_at(new, parent);
+    let stay = staying(tags_at(old, parent), tags);
+    add_inserts_from(list, parent, tags, stay)
+}
+
+/// Adds the inserts at each host parent of the new tree.
+pub fn add_inserts(
+    list: &mut Items<Mutation>,
+    views: &[PlacedView],
+    old: &Children,
+    new: &Children,
+) -> Result<(), AllocError>
+    requires { AreFew (listed new.now) }
+    ensures { OnOk result (IsListed list.old (flat_map (inserts_by (listed old.now) (listed new.now)) (0 ∷ host_tags (map plain_placed views.now))) list.new) }
+{
+    add_inserts_at(list, old, new, 0)?;
+    for placed in views {
+        add_inserts_at(list, old, new, placed.tag)?;
     }
     Ok(())
 }

@@ -5,7 +5,6 @@ ghost use Rattle.std.specs.Prelude.{◌≡◌, ◌≤◌, length, map, IfOk};
 ghost use Rattle.tree_settle.specs.Limits.{IsForestInLimits};
 ghost use Rattle.host_views.specs.Plain.{plain_mutation, plain_placed};
 ghost use Rattle.view_flatten.specs.HostTree.{host_tree_of};
-ghost use Rattle.view_flatten.specs.Walk.{AreAtRoot};
 ghost use Rattle.view_mutation.specs.Mutations.{mutations_between};
 
 mod children;
@@ -14,7 +13,7 @@ mod tags;
 #[cfg(test)]
 mod tests;
 
-use children::{add_inserts, add_removes, staying};
+use children::{add_inserts, add_removes, children_of};
 use host_views::{Mutation, PlacedView};
 use shadow_node::Forest;
 use sqlite_items::Items;
@@ -22,27 +21,26 @@ use std::alloc::{AllocError, Global};
 use tags::{add_creates, add_deletes, add_updates, index_of};
 use view_flatten::flatten;
 
-/// The mutations between two lists of views at the root.
+/// The mutations between two host trees of at most 2,000 views.
 fn mutations_of(
     alloc: Global,
     old: &[PlacedView],
     new: &[PlacedView],
 ) -> Result<Items<Mutation>, AllocError>
-    requires old_root { AreAtRoot (map plain_placed old.now) }
     requires old_count { length old.now ≤ 2000 }
-    requires new_root { AreAtRoot (map plain_placed new.now) }
     requires new_count { length new.now ≤ 2000 }
     ensures { IfOk result (λ list. map plain_mutation list ≡ mutations_between (map plain_placed old.now) (map plain_placed new.now)) }
 {
-    let stay = staying(old, new);
+    let old_children = children_of(alloc, old)?;
+    let new_children = children_of(alloc, new)?;
     let old_views = index_of(alloc, old)?;
     let new_views = index_of(alloc, new)?;
     let mut list = Items::new(alloc);
-    add_removes(&mut list, old, stay)?;
+    add_removes(&mut list, old, &old_children, &new_children)?;
     add_deletes(&mut list, old, &new_views)?;
     add_creates(&mut list, new, &old_views)?;
     add_updates(&mut list, new, &old_views)?;
-    add_inserts(&mut list, new, stay)?;
+    add_inserts(&mut list, new, &old_children, &new_children)?;
     Ok(list)
 }
 

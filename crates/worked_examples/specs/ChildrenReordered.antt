@@ -1,5 +1,5 @@
 -- The children after an equal prefix are removed and inserted again.
-use Rattle.std.specs.Prelude.{ℕ, pos, List, [], ◌∷◌, codes, None}
+use Rattle.std.specs.Prelude.{ℕ, List, [], ◌∷◌, codes, None}
 use Rattle.shadow_kinds.specs.declared.Kind.TheVariants.{Text}
 use Rattle.tree_build.specs.Script.{kept, no_more}
 use Rattle.tree_revision.specs.Records.{complete}

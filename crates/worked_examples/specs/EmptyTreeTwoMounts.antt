@@ -1,5 +1,5 @@
 -- An empty tree, and two mounts: the first without mutations, the second empty.
-use Rattle.std.specs.Prelude.{ℕ, pos, List, [], ◌∷◌, codes}
+use Rattle.std.specs.Prelude.{ℕ, List, [], ◌∷◌, codes}
 use Rattle.tree_build.specs.Script.{no_more}
 use Rattle.tree_revision.specs.Records.{complete}
 use Rattle.tree_revision.specs.Script.{PlainScript, commit, mount}

@@ -1,5 +1,5 @@
 -- A tree that keeps a node twice, and one that keeps a node which is not there.
-use Rattle.std.specs.Prelude.{ℕ, pos, List, [], ◌∷◌, codes, None}
+use Rattle.std.specs.Prelude.{ℕ, List, [], ◌∷◌, codes, None}
 use Rattle.shadow_kinds.specs.declared.Kind.TheVariants.{View}
 use Rattle.tree_build.specs.Script.{kept, no_more}
 use Rattle.tree_revision.specs.Records.{complete}

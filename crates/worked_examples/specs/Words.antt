@@ -1,15 +1,12 @@
 -- Short words for the scripts of worked examples.
-use Rattle.std.specs.Prelude.{ℕ, ℤ, pos, List, [], ◌∷◌, ◌++◌, codes, Option, Some, None, slice_set, replicate}
+use Rattle.std.specs.Prelude.{ℕ, ℤ, pos, List, [], ◌∷◌, ◌++◌, codes, Some, None, slice_set, replicate}
 use Rattle.std.specs.List.{fold}
 use Rattle.shadow_kinds.specs.declared.Kind.{Kind}
 use Rattle.prop_table.specs.Props.{PropList}
-use Rattle.prop_table.specs.Edits.{EditList}
 use Rattle.prop_table.specs.Table.{v2_rules, start_of}
-use Rattle.shadow_node.specs.Fields.{NodeFields}
 use Rattle.shadow_node.specs.declared.NodeEdit.{NodeEdit}
-use Rattle.tree_build.specs.Script.{ScriptForest, no_more, written, kept, kept_with}
-use Rattle.tree_revision.specs.Records.{PlainOp, complete, state, props, resize, stop, suspend, resume}
-use Rattle.tree_revision.specs.Script.{PlainAct, commit, hold, mount, PlainStep, PlainActor, PlainSurface, PlainScript}
+use Rattle.tree_build.specs.Script.{ScriptForest, written}
+use Rattle.tree_revision.specs.Script.{PlainAct, PlainStep, PlainActor, PlainScript}
 
 -- rows with their numbers
 abbrev pub with_rows : List (ℕ × ℤ) → PropList

@@ -2,7 +2,11 @@ use Rattle.std.proofs.Common.{subst}
 use Rattle.byte_ports.specs.Sinks.{Whole}
 use Rattle.script_read.specs.Plain.{plain_script}
 use Rattle.run_report.specs.Text.{report_text}
+use Rattle.fabric_run.proofs.Counts.{counts_within}
 use Rattle.fabric_run.proofs.turns.run_bytes.Goals as goal
+
+pub run_turns-requires-clause-numbers : goal.run_turns-requires-clause-numbers
+run_turns-requires-clause-numbers g c = counts_within (plain_script c.in-Ok.script) c.in-Ok.ensures.counts
 
 pub returns-in-Ok-write_report : goal.returns-in-Ok-write_report
 returns-in-Ok-write_report c c' =

@@ -1,7 +1,7 @@
 use Rattle.std.proofs.Common.{take, map}
 use Rattle.byte_ports.specs.Sinks.{Whole}
 use Rattle.run_report.specs.Journal.{plain_actor_part}
-use Rattle.run_report.specs.Text.{actors_text}
+use Rattle.run_report.specs.TextParts.{actors_text}
 use Rattle.run_report.proofs.answers.write_actors.Given as goal
 
 abbrev pub invariant-loop-part : goal.invariant-loop-part

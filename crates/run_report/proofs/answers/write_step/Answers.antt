@@ -1,6 +1,6 @@
 use Rattle.std.proofs.lemmas.Result.{err_from_is_err_and}
 use Rattle.byte_ports.proofs.Joined.{part_first, then_rest}
-use Rattle.run_report.specs.Text.{step_head}
+use Rattle.run_report.specs.TextParts.{step_head}
 use Rattle.run_report.proofs.answers.write_step.Goals as goal
 
 pub returns-in_err-write_step_head : goal.returns-in_err-write_step_head

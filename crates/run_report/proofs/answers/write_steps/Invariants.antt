@@ -1,6 +1,6 @@
 use Rattle.std.proofs.Common.{take}
 use Rattle.byte_ports.specs.Sinks.{Whole}
-use Rattle.run_report.specs.Text.{steps_text}
+use Rattle.run_report.specs.TextParts.{steps_text}
 use Rattle.run_report.proofs.answers.write_steps.Given as goal
 
 abbrev pub invariant-loop-i : goal.invariant-loop-i

@@ -1,7 +1,7 @@
 use Rattle.std.proofs.Common.{take, map}
 use Rattle.byte_ports.specs.Sinks.{Whole}
 use Rattle.run_report.specs.Journal.{plain_actor_part, plain_surface_part}
-use Rattle.run_report.specs.Text.{histories_text, histories_text}
+use Rattle.run_report.specs.TextParts.{histories_text, histories_text}
 use Rattle.run_report.proofs.history.write_histories.Given as goal
 
 abbrev pub invariant-loop-part : goal.invariant-loop-part

@@ -2,7 +2,7 @@ use Rattle.std.proofs.Common.{take, map}
 use Rattle.byte_ports.specs.Sinks.{Whole}
 use Rattle.tree_revision.specs.Records.{plain_record}
 use Rattle.run_report.specs.Journal.{plain_actor_part}
-use Rattle.run_report.specs.Text.{records_text}
+use Rattle.run_report.specs.TextParts.{records_text}
 use Rattle.run_report.proofs.history.write_records.Given as goal
 
 abbrev pub invariant-loop-i : goal.invariant-loop-i

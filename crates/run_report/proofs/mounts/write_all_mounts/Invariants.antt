@@ -1,7 +1,7 @@
 use Rattle.std.proofs.Common.{take, map}
 use Rattle.byte_ports.specs.Sinks.{Whole}
 use Rattle.run_report.specs.Journal.{plain_actor_part, plain_surface_part}
-use Rattle.run_report.specs.Text.{all_mounts_text}
+use Rattle.run_report.specs.TextParts.{all_mounts_text}
 use Rattle.run_report.proofs.mounts.write_all_mounts.Given as goal
 
 abbrev pub invariant-loop-part : goal.invariant-loop-part

@@ -2,7 +2,8 @@ use Rattle.std.proofs.Common.{map}
 use Rattle.std.proofs.lemmas.Result.{err_from_is_err_and}
 use Rattle.byte_ports.proofs.Joined.{part_first, part_then, then_rest}
 use Rattle.run_report.specs.Journal.{plain_actor_part}
-use Rattle.run_report.specs.Text.{by_text, mount_head}
+use Rattle.run_report.specs.Text.{by_text}
+use Rattle.run_report.specs.TextParts.{mount_head}
 use Rattle.run_report.proofs.mounts.write_mount.Goals as goal
 
 pub returns-in_err-write_mount_head : goal.returns-in_err-write_mount_head

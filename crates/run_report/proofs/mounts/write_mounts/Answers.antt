@@ -2,7 +2,8 @@ use Rattle.std.proofs.Common.{map, codes}
 use Rattle.std.proofs.lemmas.Result.{err_from_is_err_and}
 use Rattle.byte_ports.proofs.Joined.{part_first, part_then, then_rest}
 use Rattle.run_report.specs.Journal.{plain_actor_part, plain_mount}
-use Rattle.run_report.specs.Text.{number_line, transactions_text}
+use Rattle.run_report.specs.Text.{number_line}
+use Rattle.run_report.specs.TextParts.{transactions_text}
 use Rattle.run_report.proofs.mounts.write_mounts.Goals as goal
 
 pub returns-in_err-write_tag_line : goal.returns-in_err-write_tag_line

@@ -1,7 +1,7 @@
 use Rattle.std.proofs.Common.{take, map}
 use Rattle.byte_ports.specs.Sinks.{Whole}
 use Rattle.host_views.specs.Plain.{plain_mutation}
-use Rattle.run_report.specs.Text.{mutations_text}
+use Rattle.run_report.specs.TextParts.{mutations_text}
 use Rattle.run_report.proofs.mounts.write_mutations.Given as goal
 
 abbrev pub invariant-loop-mutation : goal.invariant-loop-mutation

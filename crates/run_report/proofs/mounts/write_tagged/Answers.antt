@@ -1,6 +1,6 @@
 use Rattle.std.proofs.lemmas.Result.{err_from_is_err_and}
 use Rattle.byte_ports.proofs.Joined.{part_first, then_rest}
-use Rattle.run_report.specs.Text.{tagged_head}
+use Rattle.run_report.specs.TextParts.{tagged_head}
 use Rattle.run_report.proofs.mounts.write_tagged.Goals as goal
 
 pub returns-in_err-write_tagged_head : goal.returns-in_err-write_tagged_head

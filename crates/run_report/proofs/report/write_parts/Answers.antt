@@ -2,7 +2,7 @@ use Rattle.std.proofs.Common.{map, codes}
 use Rattle.std.proofs.lemmas.Result.{err_from_is_err_and}
 use Rattle.byte_ports.proofs.Joined.{part_first, part_then, then_rest}
 use Rattle.run_report.specs.Journal.{plain_actor_part, plain_surface_part}
-use Rattle.run_report.specs.Text.{actors_text, all_mounts_text, histories_text}
+use Rattle.run_report.specs.TextParts.{actors_text, all_mounts_text, histories_text}
 use Rattle.run_report.proofs.report.write_parts.Goals as goal
 
 pub returns-in_err-write_whole : goal.returns-in_err-write_whole

@@ -1,7 +1,7 @@
 use Rattle.std.proofs.Common.{rules}
 use Rattle.std.proofs.lemmas.Result.{err_from_is_err_and}
 use Rattle.byte_ports.proofs.Joined.{whole_each, part_each}
-use Rattle.run_report.specs.Text.{hex_pair}
+use Rattle.run_report.specs.TextParts.{hex_pair}
 use Rattle.run_report.proofs.views.write_hex.Goals as goal
 
 pub returns-in_err-write_byte : goal.returns-in_err-write_byte

@@ -1,6 +1,7 @@
 use Rattle.std.proofs.lemmas.Result.{err_from_is_err_and}
 use Rattle.byte_ports.proofs.Joined.{part_first, part_then, then_rest}
-use Rattle.run_report.specs.Text.{shape_text, state_text}
+use Rattle.run_report.specs.Text.{state_text}
+use Rattle.run_report.specs.TextParts.{shape_text}
 use Rattle.run_report.proofs.views.write_view.Goals as goal
 use Rattle.prop_table.specs.Table.{v2_rules}
 use Rattle.prop_table.specs.PairText.{pairs_text_of}

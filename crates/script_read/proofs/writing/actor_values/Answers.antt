@@ -1,5 +1,5 @@
-use Rattle.std.proofs.Common.{All, rules, sym, subst, take_all}
-use Rattle.std.proofs.lemmas.List.Elements.{All-more, All-map}
+use Rattle.std.proofs.Common.{All, rules, subst}
+use Rattle.std.proofs.lemmas.List.Elements.{All-more}
 use Rattle.script_read.specs.Plain.{plain_actor}
 use Rattle.script_read.specs.Writing.{actor_json}
 use Rattle.script_read.specs.Writable.{IsActFit}

@@ -1,4 +1,4 @@
-use Rattle.std.proofs.Common.{◌<◌, length, ap, ◌∙◌, arith, rules}
+use Rattle.std.proofs.Common.{ap, ◌∙◌, arith}
 use Rattle.prop_table.specs.Rules.{rule_at}
 use Rattle.script_read.proofs.RowMembers.{rule_of-at}
 use Rattle.script_read.proofs.writing.node_row.Goals as goal

@@ -1,4 +1,4 @@
-use Rattle.std.proofs.Common.{◌≡◌, ◌<◌, length, refl, arith, rules, sym}
+use Rattle.std.proofs.Common.{◌<◌, arith, rules, sym}
 use Rattle.serde_json.specs.View.{members_view}
 use Rattle.prop_table.specs.Table.{v2_rules}
 use Rattle.script_read.specs.Writing.{with_members, row_members}

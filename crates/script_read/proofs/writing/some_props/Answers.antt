@@ -1,10 +1,9 @@
-use Rattle.std.proofs.Common.{◌≡◌, ap, sym, ◌∙◌, rules, refl}
-use Rattle.std.specs.Prelude.{None, Some, true}
-use Rattle.serde_json.specs.Data.{object, no_members}
+use Rattle.std.proofs.Common.{◌≡◌, sym, ◌∙◌, rules}
+use Rattle.std.specs.Prelude.{true}
 use Rattle.serde_json.specs.View.{members_view}
 use Rattle.serde_json.proofs.Views.{view-Object}
 use Rattle.prop_table.specs.Table.{v2_rules}
-use Rattle.script_read.specs.Writing.{with_members, row_members, changed_rows, edit_members, member_if, some_label, text_json}
+use Rattle.script_read.specs.Writing.{row_members, changed_rows, edit_members, some_label}
 use Rattle.script_read.proofs.RowMembers.{props_put, some_object-none, some_object-some, no_entries, no_members-entries}
 use Rattle.script_read.proofs.writing.some_props.Goals as goal
 

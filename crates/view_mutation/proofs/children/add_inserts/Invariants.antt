@@ -1,10 +1,11 @@
 use Rattle.std.proofs.Common.{◌≡◌, ◌++◌, map, drop}
-use Rattle.host_views.specs.Plain.{plain_placed, plain_mutation, host_tags}
-use Rattle.view_mutation.specs.Mutations.{inserts_from}
+use Rattle.std.specs.List.{flat_map}
+use Rattle.host_views.specs.Plain.{host_tags, plain_placed, plain_mutation}
+use Rattle.view_mutation.specs.Children.{listed, inserts_by}
 use Rattle.view_mutation.proofs.children.add_inserts.Given as goal
 
-abbrev pub invariant-loop-at : goal.invariant-loop-at
-invariant-loop-at l = record {
-  left : map plain_mutation l.list ++ inserts_from 0 l.at (host_tags (map plain_placed (drop l.at l.new)))
-      ≡ map plain_mutation l.initial.list ++ inserts_from 0 l.stay (host_tags (map plain_placed (drop l.stay l.new)));
+abbrev pub invariant-loop-placed : goal.invariant-loop-placed
+invariant-loop-placed l = record {
+  left : map plain_mutation l.list ++ flat_map (inserts_by (listed l.old) (listed l.new)) (host_tags (map plain_placed (drop l.placed-index l.views)))
+      ≡ map plain_mutation l.initial.list ++ flat_map (inserts_by (listed l.old) (listed l.new)) (host_tags (map plain_placed l.views));
 }

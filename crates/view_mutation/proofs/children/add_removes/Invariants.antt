@@ -1,10 +1,11 @@
-use Rattle.std.proofs.Common.{◌≡◌, ◌≤◌, ◌++◌, map, drop}
-use Rattle.host_views.specs.Plain.{plain_placed, plain_mutation, host_tags}
-use Rattle.view_mutation.specs.Mutations.{removes_from}
+use Rattle.std.proofs.Common.{◌≡◌, ◌++◌, map, drop}
+use Rattle.std.specs.List.{flat_map}
+use Rattle.host_views.specs.Plain.{host_tags, plain_placed, plain_mutation}
+use Rattle.view_mutation.specs.Children.{listed, removes_by}
 use Rattle.view_mutation.proofs.children.add_removes.Given as goal
 
-abbrev pub invariant-loop-at : goal.invariant-loop-at
-invariant-loop-at l = record {
-  done : map plain_mutation l.list ≡ map plain_mutation l.initial.list ++ removes_from 0 l.at (host_tags (map plain_placed (drop l.at l.old)));
-  least : l.stay ≤ l.at;
+abbrev pub invariant-loop-placed : goal.invariant-loop-placed
+invariant-loop-placed l = record {
+  left : map plain_mutation l.list ++ flat_map (removes_by (listed l.old) (listed l.new)) (host_tags (map plain_placed (drop l.placed-index l.views)))
+      ≡ map plain_mutation l.initial.list ++ flat_map (removes_by (listed l.old) (listed l.new)) (host_tags (map plain_placed l.views));
 }

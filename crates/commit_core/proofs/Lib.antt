@@ -1,0 +1,4 @@
+pub mod PlainSteps
+pub mod Steps
+pub mod Tries
+pub mod Passes

@@ -1,0 +1,5 @@
+pub mod OneProof
+pub mod Plain
+pub mod PlainPorts
+pub mod Events
+pub mod Tries

@@ -1,0 +1,28 @@
+-- A commit's tries, and the numbers at which it looked.
+use Rattle.std.specs.Prelude.{◌≡◌, ℕ, ◌+◌, ◌-◌, ◌≤◌, List, length, take, min, count_by, is_none, Some}
+use Rattle.std.specs.List.{range_with_len}
+use Rattle.shadow_frame.specs.declared.Size.{Size}
+use Rattle.tree_revision.specs.Records.{PlainRecord}
+use Rattle.tree_revision.specs.Cancels.{cancel_of}
+use Rattle.tree_revision.specs.Ports.{Told}
+use Rattle.commit_core.specs.declared.committer.Phase.{Phase}
+use Rattle.commit_core.specs.declared.committer.Phase.TheVariants.{Fresh, Ready, Ended}
+use Rattle.commit_core.specs.declared.committer.Committer.{Committer}
+use Rattle.commit_core.specs.Events.{entry_of, looked_at}
+
+-- how many numbers, from one on and below another, have no cause for a record after that many of some records
+abbrev pub clear_numbers : Size → List PlainRecord → PlainRecord → (from below : ℕ) → ℕ
+clear_numbers first entries entry from below =
+    count_by (λ number. is_none (cancel_of first entry.op (take number entries) entry.held)) (range_with_len from (below - from))
+
+-- the number below which a commit has looked: where it is to look again, one that was reached
+abbrev pub looked_below : Phase → Told → ℕ
+looked_below (Fresh entry) told = min told.floor (length told.seen + 1)
+looked_below (Ready entry next now) told = length told.seen + 1
+looked_below Ended told = 0
+
+-- each try of a commit had a number of its own, from one on, at which it had no cause
+pub record TriesHaveRoom (from : ℕ) (told : Told) (committer : Committer) : Type 0 where
+  pub room : (entry : PlainRecord) → entry_of committer.phase ≡ Some entry
+      → committer.tries ≤ clear_numbers told.first told.seen entry from (looked_below committer.phase told)
+  pub once : (number : ℕ) → looked_at committer.phase ≡ Some number → 1 ≤ committer.tries

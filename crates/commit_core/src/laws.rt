@@ -1,0 +1,30 @@
+//! Laws of commits: the tries of a commit, and what a pass saw.
+
+ghost use Rattle.std.specs.Prelude.{◌≡◌, ℕ, ◌+◌, ◌-◌, ◌≤◌, length, Option, Some, None};
+ghost use Rattle.tree_revision.specs.Records.{PlainRecord};
+ghost use Rattle.tree_revision.specs.Settled.{KeptRevision};
+ghost use Rattle.tree_revision.specs.Ports.{Told, BeginsWith, Lasts};
+ghost use Rattle.tree_revision.specs.declared.record.Cancel.{Cancel};
+ghost use Rattle.commit_core.specs.declared.committer.Committer.{Committer};
+ghost use Rattle.commit_core.specs.declared.committer.Progress.{Progress};
+ghost use Rattle.commit_core.specs.declared.plain_parts.PlainSpine.{PlainSpine};
+ghost use Rattle.commit_core.specs.declared.plain_parts.PlainPass.{PlainPass};
+ghost use Rattle.commit_core.specs.PlainPorts.{records_of, IsToldBy};
+ghost use Rattle.commit_core.specs.Events.{entry_of, looked_at, IsEvent, IsCancelledLook, IsAdmittedOffer};
+ghost use Rattle.commit_core.specs.Tries.{clear_numbers, TriesHaveRoom};
+
+/// Each try of a commit has a number of its own at which it had no cause, from any number on that
+/// was seen before its first look: so it is at the start, so it stays over each event and whatever
+/// else the port comes to, and so it is told at the end.
+pub fn tries_have_room()
+    ensures starts { (from : ℕ) (told : Told) (committer : Committer) → committer.tries ≡ 0 → looked_at committer.phase ≡ None → TriesHaveRoom from told committer }
+    ensures lasts { (old new : Told) (committer : Committer) (from : ℕ) → Lasts old new → TriesHaveRoom from old committer → TriesHaveRoom from new committer }
+    ensures goes_on { (old new : Told) (before after : Committer) (progress : Progress) (from : ℕ) → from ≤ length old.seen → Lasts old new → IsEvent old new before after progress → TriesHaveRoom from old before → TriesHaveRoom from new after }
+    ensures cancelled { (old new : Told) (before after : Committer) (number count from : ℕ) (found : Cancel) (entry : PlainRecord) → Lasts old new → IsCancelledLook old new before after number count found → TriesHaveRoom from old before → entry_of before.phase ≡ Some entry → (1 ≤ count) × (count ≤ clear_numbers old.first new.seen entry from number + 1) }
+    ensures admitted { (old new : Told) (before after : Committer) (number count from : ℕ) (share : Option KeptRevision) → from ≤ length old.seen → Lasts old new → (event : IsAdmittedOffer old new before after number count share) → TriesHaveRoom from old before → (1 ≤ count) × (count ≤ clear_numbers old.first new.seen event.entry from (number - 1) + 1) }
+{}
+
+/// As others commit on a history in one hand, a pass has seen the same, and no count falls.
+pub fn a_pass_keeps_what_it_saw()
+    ensures { (earlier later : PlainSpine) (pass : PlainPass) (old new : Told) → pass.floor ≤ length (records_of earlier) → BeginsWith (records_of later) (records_of earlier) → later.first ≡ earlier.first → later.room ≡ earlier.room → IsToldBy earlier pass old → IsToldBy later pass new → (new.seen ≡ old.seen) × Lasts old new }
+{}

@@ -1,0 +1,2 @@
+pub mod HostTrees
+pub mod Mounting

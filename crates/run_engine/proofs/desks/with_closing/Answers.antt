@@ -1,0 +1,9 @@
+use Rattle.run_engine.proofs.Closing.{closing_some}
+use Rattle.run_engine.proofs.Events.{finish_some}
+use Rattle.run_engine.proofs.desks.with_closing.Goals as goal
+
+pub returns : goal.returns
+returns c first records passages stands mounted last along =
+    closing_some first records passages c.args.coordinator c.finish.new.self c.in-Some.transaction c.mount_part.result c.args.mounts c.push.new.self
+    (finish_some first records c.args.coordinator c.finish.new.self c.in_ok-finish.field-0 c.in-Some.transaction c.in-Some.is (c.in_ok-finish.ensures first records stands mounted))
+    last c.mount_part.ensures along c.in_ok-push-in-Some.ensures.ok

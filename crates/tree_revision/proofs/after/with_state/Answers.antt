@@ -1,0 +1,52 @@
+use Rattle.std.proofs.Common.{◌+◌, true, false, sym, ap, subst, ◌∙◌}
+use Rattle.std.proofs.lemmas.Result.{err_from_is_err_and}
+use Rattle.shadow_kinds.specs.Traits.{has_state_of}
+use Rattle.shadow_node.specs.Find.{first_settled}
+use Rattle.tree_settle.specs.Changes.{cell_in}
+use Rattle.tree_revision.specs.Cancels.{stale}
+use Rattle.tree_revision.specs.Steps.{AreCountsWithin, IsFor, families_changed}
+use Rattle.tree_revision.proofs.Refused.{state_unmounted, state_mounted}
+use Rattle.tree_revision.proofs.Within.{counts_changed}
+use Rattle.tree_revision.proofs.after.with_state.Goals as goal
+
+pub returns-in_default-clause-cancelled : goal.returns-in_default-clause-cancelled
+returns-in_default-clause-cancelled c =
+    let tag = c.args.tag in
+    let front = c.args.front.now in
+    state_unmounted tag c.args.change (cell_in front.families tag) front.forest (c.in_default.ensures ∙ ap (λ r. first_settled tag r.forest) c.front.view_is)
+
+pub returns-then-not-has_state-clause-cancelled : goal.returns-then-not-has_state-clause-cancelled
+returns-then-not-has_state-clause-cancelled c =
+    let tag = c.args.tag in
+    let front = c.args.front.now in
+    let found = c.in-Some.ensures ∙ ap (λ r. first_settled tag r.forest) c.front.view_is in
+    let kind = c.kind.ensures ∙ ap (λ node. node.fields.fields.kind) c.deref.ensures in
+    state_mounted tag c.args.change (cell_in front.families tag) front.forest c.in-Some.node.now.value false found (c.if-not-has_state.ensures ∙ ap has_state_of kind)
+
+pub returns-in_err-families-clause-cancelled : goal.returns-in_err-families-clause-cancelled
+returns-in_err-families-clause-cancelled c =
+    let tag = c.args.tag in
+    let front = c.args.front.now in
+    let refusal = c.in_err-families.field-0.0 in
+    let found = c.in-Some.ensures ∙ ap (λ r. first_settled tag r.forest) c.front.view_is in
+    let kind = c.kind.ensures ∙ ap (λ node. node.fields.fields.kind) c.deref.ensures in
+    let cause = state_mounted tag c.args.change (cell_in front.families tag) front.forest c.in-Some.node.now.value true found (c.if-not-has_state.ensures ∙ ap has_state_of kind) in
+    let why = subst (λ r. IsFor (stale tag c.args.change (cell_in r.families tag)) refusal) c.front.view_is c.in_err-families.ensures.cancelled in
+    let p = err_from_is_err_and c.from_residual.result c.from_residual.ensures.1 in
+    rw (p.1, p.2) (subst (λ why. IsFor why refusal) (sym cause) why)
+
+pub settled-requires-clause-counts : goal.settled-requires-clause-counts
+settled-requires-clause-counts c =
+    let front = c.args.front.now in
+    let is = c.in_ok-families.ensures.families ∙ ap (λ r. families_changed c.args.tag c.args.change r.families) c.front.view_is in
+    let counts = subst (λ r. AreCountsWithin r.number r.families) c.front.view_is c.front.invariant.counts in
+    subst (AreCountsWithin (front.number + 1)) (sym is) (counts_changed front.number front.families c.args.tag c.args.change counts)
+
+pub returns-clause-uncancelled : goal.returns-clause-uncancelled
+returns-clause-uncancelled c =
+    let tag = c.args.tag in
+    let front = c.args.front.now in
+    let found = c.in-Some.ensures ∙ ap (λ r. first_settled tag r.forest) c.front.view_is in
+    let kind = c.kind.ensures ∙ ap (λ node. node.fields.fields.kind) c.deref.ensures in
+    state_mounted tag c.args.change (cell_in front.families tag) front.forest c.in-Some.node.now.value true found (c.if-not-has_state.ensures ∙ ap has_state_of kind)
+    ∙ ap (λ r. stale tag c.args.change (cell_in r.families tag)) (sym c.front.view_is) ∙ c.in_ok-families.ensures.uncancelled

@@ -1,0 +1,190 @@
+//! The content of the next revision, for each kind of change.
+
+ghost use Rattle.std.specs.Prelude.{◌≡◌, ◌+◌, ◌-◌, ◌<◌, ◌^◌, IfOk, IfErr, OnOk, None};
+ghost use Rattle.native_state.specs.Made.{nodes_more};
+ghost use Rattle.shadow_node.specs.Fields.{contents_of};
+ghost use Rattle.shadow_node.specs.InRange.{IsEditInRange};
+ghost use Rattle.shadow_node.specs.Limits.{IsForestWithin};
+ghost use Rattle.tree_build.specs.Script.{script_forest};
+ghost use Rattle.tree_build.specs.InRange.{AreNodesInRange};
+ghost use Rattle.tree_settle.specs.Changes.{cell_in, changes_in};
+ghost use Rattle.tree_settle.specs.Limits.{IsSizeInRange};
+ghost use Rattle.tree_revision.specs.InRange.{IsOpInRange};
+ghost use Rattle.tree_revision.specs.Records.{plain_op, complete, state as state_op, props as props_op, resize, stop, suspend};
+ghost use Rattle.tree_revision.specs.Prepared.{cause_in, content_next};
+ghost use Rattle.tree_revision.specs.Steps.{AreCountsWithin, IsFor, IsMadeFor, settled_next};
+
+use crate::family_changes::{changed, grown};
+use crate::next::PrepareRefusal;
+use crate::record::{Cancel, Op};
+use crate::revision::Content;
+use clone_path::replace_at;
+use native_state::{FamilyTable, StateChange};
+use shadow_frame::Size;
+use shadow_kinds::has_state;
+use shadow_node::{Forest, Made, NodeEdit, find};
+use std::alloc::{AllocError, Global};
+use tree_build::{ScriptNode, build};
+use tree_settle::settle;
+
+/// The content after a front, of that size, with those families and with that forest, which is
+/// settled.
+fn settled(
+    alloc: Global,
+    made: &mut Made,
+    front: &Content,
+    size: Size,
+    families: FamilyTable,
+    forest: &Forest,
+) -> Result<Content, AllocError>
+    requires number { front.now.number < 2 ^ 64 - 1 }
+    requires size { IsSizeInRange size }
+    requires counts { AreCountsWithin (front.now.number + 1) families }
+    requires within { IsForestWithin (contents_of forest.now) }
+    ensures content { IfOk result (λ next. next ≡ settled_next front.now size families forest.now) }
+    ensures made { OnOk result (made.new ≡ nodes_more made.old (changes_in size (cell_in families) forest.now)) }
+{
+    let forest = settle(alloc, made, forest, size, &families)?;
+    Ok(Content {
+        number: front.number + 1,
+        size,
+        forest,
+        families,
+    })
+}
+
+/// The content after another forest, over the held one.
+fn with_forest(
+    alloc: Global,
+    made: &mut Made,
+    nodes: &[ScriptNode],
+    front: &Content,
+    held: &Content,
+) -> Result<Content, PrepareRefusal>
+    requires number { front.now.number < 2 ^ 64 - 1 }
+    requires nodes { AreNodesInRange (script_forest nodes.now) }
+    ensures next { IfOk result (λ next. next ≡ content_next (complete (script_forest nodes.now)) front.now held.now) }
+    ensures uncancelled { OnOk result (cause_in (complete (script_forest nodes.now)) front.now held.now ≡ None) }
+    ensures cancelled { IfErr result (IsFor (cause_in (complete (script_forest nodes.now)) front.now held.now)) }
+    ensures made { OnOk result (IsMadeFor (complete (script_forest nodes.now)) front.now held.now made.old made.new) }
+{
+    let forest = build(alloc, made, nodes, &held.forest)?;
+    let families = grown(alloc, made, &front.families, &forest)?;
+    Ok(settled(alloc, made, front, front.size, families, &forest)?)
+}
+
+/// The content after a change of a family's state.
+fn with_state(
+    alloc: Global,
+    made: &mut Made,
+    tag: u32,
+    change: StateChange,
+    front: &Content,
+) -> Result<Content, PrepareRefusal>
+    requires number { front.now.number < 2 ^ 64 - 1 }
+    ensures next { IfOk result (λ next. next ≡ content_next (state_op tag change) front.now front.now) }
+    ensures uncancelled { OnOk result (cause_in (state_op tag change) front.now front.now ≡ None) }
+    ensures cancelled { IfErr result (IsFor (cause_in (state_op tag change) front.now front.now)) }
+    ensures made { OnOk result (IsMadeFor (state_op tag change) front.now front.now made.old made.new) }
+{
+    let Some(node) = find(&front.forest, tag) else {
+        return Err(PrepareRefusal::Cancel(Cancel::NotMounted { tag }));
+    };
+    if !has_state(node.kind()) {
+        return Err(PrepareRefusal::Cancel(Cancel::Stateless { tag }));
+    }
+    let families = changed(alloc, made, &front.families, tag, change)?;
+    Ok(settled(alloc, made, front, front.size, families, &front.forest)?)
+}
+
+/// The content after a change of a node.
+fn with_props(
+    alloc: Global,
+    made: &mut Made,
+    tag: u32,
+    change: &NodeEdit,
+    front: &Content,
+) -> Result<Content, PrepareRefusal>
+    requires number { front.now.number < 2 ^ 64 - 1 }
+    requires change { IsEditInRange change.now }
+    ensures next { IfOk result (λ next. next ≡ content_next (props_op tag change.now) front.now front.now) }
+    ensures uncancelled { OnOk result (cause_in (props_op tag change.now) front.now front.now ≡ None) }
+    ensures cancelled { IfErr result (IsFor (cause_in (props_op tag change.now) front.now front.now)) }
+    ensures made { OnOk result (IsMadeFor (props_op tag change.now) front.now front.now made.old made.new) }
+{
+    let Some(forest) = replace_at(alloc, made, &front.forest, tag, change)? else {
+        return Err(PrepareRefusal::Cancel(Cancel::NotMounted { tag }));
+    };
+    Ok(settled(
+        alloc,
+        made,
+        front,
+        front.size,
+        front.families.share()?,
+        &forest,
+    )?)
+}
+
+/// The content with another size of the surface.
+fn with_size(
+    alloc: Global,
+    made: &mut Made,
+    size: Size,
+    front: &Content,
+) -> Result<Content, AllocError>
+    requires number { front.now.number < 2 ^ 64 - 1 }
+    requires size { IsSizeInRange size }
+    ensures next { IfOk result (λ next. next ≡ content_next (resize size) front.now front.now) }
+    ensures made { OnOk result (IsMadeFor (resize size) front.now front.now made.old made.new) }
+{
+    let families = front.families.share()?;
+    settled(alloc, made, front, size, families, &front.forest)
+}
+
+/// The content with an empty forest.
+fn stopped(front: &Content) -> Result<Content, AllocError>
+    requires { front.now.number < 2 ^ 64 - 1 }
+    ensures { IfOk result (λ next. next ≡ content_next stop front.now front.now) }
+{
+    let number = front.number + 1;
+    Ok(Content {
+        number,
+        size: front.size,
+        forest: Forest::empty(),
+        families: front.families.share()?,
+    })
+}
+
+/// The content after a change that leaves all as it is, except for the number.
+fn unchanged(alloc: Global, made: &mut Made, front: &Content) -> Result<Content, AllocError>
+    requires { front.now.number < 2 ^ 64 - 1 }
+    ensures next { IfOk result (λ next. next ≡ content_next suspend front.now front.now) }
+    ensures made { OnOk result (IsMadeFor suspend front.now front.now made.old made.new) }
+{
+    with_size(alloc, made, front.size, front)
+}
+
+/// The content after a change of the front, by a caller that holds that content.
+pub(crate) fn after(
+    alloc: Global,
+    made: &mut Made,
+    op: &Op,
+    front: &Content,
+    held: &Content,
+) -> Result<Content, PrepareRefusal>
+    requires op { IsOpInRange (plain_op op.now) }
+    requires number { front.now.number < 2 ^ 64 - 1 }
+    ensures next { IfOk result (λ next. next ≡ content_next (plain_op op.now) front.now held.now) }
+    ensures uncancelled { OnOk result (cause_in (plain_op op.now) front.now held.now ≡ None) }
+    ensures cancelled { IfErr result (IsFor (cause_in (plain_op op.now) front.now held.now)) }
+    ensures made { OnOk result (IsMadeFor (plain_op op.now) front.now held.now made.old made.new) }
+{
+    match op {
+        Op::Complete { nodes } => with_forest(alloc, made, nodes.as_slice(), front, held),
+        Op::State { tag, change } => with_state(alloc, made, *tag, *change, front),
+        Op::Props { tag, change } => with_props(alloc, made, *tag, change, front),
+        Op::Size { size } => Ok(with_size(alloc, made, *size, front)?),
+        Op::Stop => Ok(stopped(front)?),
+        Op::Suspend | Op::Resume => Ok(unchanged(alloc, made, front)?),
+    }
+}
