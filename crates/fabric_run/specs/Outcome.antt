@@ -1,5 +1,5 @@
 -- What the program leaves, by its status.
-use Rattle.std.specs.Prelude.{◌≡◌, ◌⊎◌, ℕ, List, [], Result, Ok, Err}
+use Rattle.std.specs.Prelude.{◌≡◌, ◌⊎◌, ℕ, List, [], Ok, Err}
 use Rattle.byte_ports.specs.Counts.{Rose}
 use Rattle.byte_ports.specs.Sources.{SourceView, IsToldAs, IsLongerThan}
 use Rattle.byte_ports.specs.Sinks.{SinkView, Whole, Part}
@@ -17,26 +17,22 @@ use Rattle.fabric_run.specs.declared.status.Status.TheVariants.{Done, Refused, U
 abbrev pub HasRisen : ℕ → ℕ → Type 0
 HasRisen = Rose
 
--- the script that bytes are, or else their fault
-abbrev pub script_to_run : List ℕ → Result PlainScript ScriptFault
-script_to_run bytes = script_in bytes
-
 -- the whole report of the script that the bytes are is appended, and nothing else; the journal that it tells is legal
 pub record IsReported (bytes : List ℕ) (old new : SinkView) : Type 0 where
   pub script : PlainScript
-  pub reads : script_to_run bytes ≡ Ok script
+  pub reads : script_in bytes ≡ Ok script
   pub legal : IsLegal script (journal_of_turns script)
   pub written : Whole old new (report_text (journal_of_turns script))
 
 -- a write failed: the count of the sink rose, and the first bytes of the report are appended
 pub record IsCutOff (bytes : List ℕ) (old new : SinkView) : Type 0 where
   pub script : PlainScript
-  pub reads : script_to_run bytes ≡ Ok script
+  pub reads : script_in bytes ≡ Ok script
   pub written : Part old new (report_text (journal_of_turns script))
 
 -- the bytes have that fault, and nothing is appended
 pub record IsRefused (bytes : List ℕ) (old new : SinkView) (fault : ScriptFault) : Type 0 where
-  pub reads : script_to_run bytes ≡ Err fault
+  pub reads : script_in bytes ≡ Err fault
   pub unchanged : new ≡ old
 
 -- what running bytes leaves on the sink

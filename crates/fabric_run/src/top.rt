@@ -3,7 +3,8 @@
 ghost use Rattle.std.specs.Prelude.{◌≡◌, ◌↔◌, ℕ, List, Some, Ok, Err};
 ghost use Rattle.tree_revision.specs.Script.{PlainScript};
 ghost use Rattle.script_read.specs.declared.script.ScriptFault.{ScriptFault};
-ghost use Rattle.fabric_run.specs.Outcome.{TurnsLeave, script_to_run, HasRisen, IsDoneOrMemory, IsRefusedOrMemory};
+ghost use Rattle.script_read.specs.Reads.{script_in};
+ghost use Rattle.fabric_run.specs.Outcome.{TurnsLeave, HasRisen, IsDoneOrMemory, IsRefusedOrMemory};
 ghost use Rattle.fabric_run.specs.Texts.{Tells, status_line};
 ghost use Rattle.fabric_run.specs.Words.{AreTurns};
 ghost use Rattle.fabric_run.specs.declared.status.Status.TheVariants.{Usage};
@@ -36,8 +37,8 @@ pub fn fabric_main<R: Threads + Wait + Sync, S: Source, K: Sink, E: Sink, G: Gat
 ) -> Status
     ensures usage { (result ≡ Usage) ↔ (¬ AreTurns words.now) }
     ensures turns { AreTurns words.now → TurnsLeave (S.source_view source.old) (S.source_view source.new) (K.sink_view out.old) (K.sink_view out.new) result }
-    ensures complete { (bytes : List ℕ) (script : PlainScript) → AreTurns words.now → (S.source_view source.old).left ≡ Some bytes → script_to_run bytes ≡ Ok script → ¬ HasRisen (S.source_view source.old).faults (S.source_view source.new).faults → ¬ HasRisen (K.sink_view out.old).faults (K.sink_view out.new).faults → IsDoneOrMemory result }
-    ensures refused { (bytes : List ℕ) (fault : ScriptFault) → AreTurns words.now → (S.source_view source.old).left ≡ Some bytes → script_to_run bytes ≡ Err fault → ¬ HasRisen (S.source_view source.old).faults (S.source_view source.new).faults → IsRefusedOrMemory fault result }
+    ensures complete { (bytes : List ℕ) (script : PlainScript) → AreTurns words.now → (S.source_view source.old).left ≡ Some bytes → script_in bytes ≡ Ok script → ¬ HasRisen (S.source_view source.old).faults (S.source_view source.new).faults → ¬ HasRisen (K.sink_view out.old).faults (K.sink_view out.new).faults → IsDoneOrMemory result }
+    ensures refused { (bytes : List ℕ) (fault : ScriptFault) → AreTurns words.now → (S.source_view source.old).left ≡ Some bytes → script_in bytes ≡ Err fault → ¬ HasRisen (S.source_view source.old).faults (S.source_view source.new).faults → IsRefusedOrMemory fault result }
     ensures source { (¬ AreTurns words.now) → S.source_view source.new ≡ S.source_view source.old }
     ensures out { (¬ AreTurns words.now) → K.sink_view out.new ≡ K.sink_view out.old }
     ensures err { Tells (E.sink_view err.old) (E.sink_view err.new) (status_line result) }
