@@ -1,6 +1,6 @@
 -- A sink over memory of a fixed room, some of whose calls fail.
 use Rattle.std.specs.Prelude.{◌≡◌, ℕ, ◌-◌, ◌<◌, ◌≤◌, ◌⊎◌, List, true, false, Some, ◌++◌, take, length, min, Result, Ok, Err}
-use Rattle.byte_ports.specs.Counts.{raised}
+use Rattle.counts.specs.Raised.{raised}
 use Rattle.byte_ports.specs.Sinks.{SinkView}
 use Rattle.byte_ports.specs.MemorySources.{is_listed}
 use Rattle.byte_ports.specs.declared.Failed.{Failed}

@@ -1,7 +1,7 @@
 -- A source over bytes in memory, some of whose calls fail.
 use Rattle.std.specs.Prelude.{◌≡◌, ◌==◌, ℕ, List, Bool, true, false, Some, take, drop, length, min, Result, Ok, Err}
 use Rattle.std.specs.List.{list_any}
-use Rattle.byte_ports.specs.Counts.{raised}
+use Rattle.counts.specs.Raised.{raised}
 use Rattle.byte_ports.specs.Sources.{SourceView}
 use Rattle.byte_ports.specs.declared.Failed.{Failed}
 

@@ -1,6 +1,6 @@
 -- What is told of a sink, and what writing appends to it.
 use Rattle.std.specs.Prelude.{◌≡◌, ℕ, ◌≤◌, List, ◌++◌, take, length, Option, Some, None, Result, Ok, Err}
-use Rattle.byte_ports.specs.Counts.{Rose}
+use Rattle.counts.specs.Raised.{HasRisen}
 use Rattle.byte_ports.specs.declared.Failed.{Failed}
 
 -- the bytes written, where they are told, and the count of faults
@@ -23,7 +23,7 @@ pub record Part (old new : SinkView) (text : List ℕ) : Type 0 where
   pub upto : ℕ
   pub within : upto ≤ length text
   pub written : new.written ≡ plus old.written (take upto text)
-  pub rose : Rose old.faults new.faults
+  pub rose : HasRisen old.faults new.faults
   pub faults : old.faults ≤ new.faults
 
 -- what writing a whole text leaves
@@ -40,7 +40,7 @@ pub record WritesFirst (old new : SinkView) (piece : List ℕ) (count : ℕ) : T
 -- one write failed: nothing is appended, and the count rose
 pub record WriteFails (old new : SinkView) : Type 0 where
   pub written : new.written ≡ old.written
-  pub rose : Rose old.faults new.faults
+  pub rose : HasRisen old.faults new.faults
   pub faults : old.faults ≤ new.faults
 
 -- what one write leaves

@@ -1,6 +1,6 @@
 -- What is told of a source, and what reading takes from it.
 use Rattle.std.specs.Prelude.{◌≡◌, ℕ, ◌+◌, ◌<◌, ◌≤◌, List, [], ◌++◌, take, drop, length, Option, Some, None, Result, Ok, Err}
-use Rattle.byte_ports.specs.Counts.{Rose}
+use Rattle.counts.specs.Raised.{HasRisen}
 use Rattle.byte_ports.specs.declared.Failed.{Failed}
 use Rattle.byte_ports.specs.declared.source.Taken.{Taken}
 use Rattle.byte_ports.specs.declared.source.Taken.TheVariants.{Whole, Beyond}
@@ -42,7 +42,7 @@ pub record Reads (old new : SourceView) (buffer : List ℕ) (count : ℕ) : Type
 -- a read failed: nothing is taken, and the count rose
 pub record ReadFails (old new : SourceView) : Type 0 where
   pub left : new.left ≡ old.left
-  pub rose : Rose old.faults new.faults
+  pub rose : HasRisen old.faults new.faults
   pub faults : old.faults ≤ new.faults
 
 -- what one read leaves, with the buffer as it is afterwards
@@ -75,7 +75,7 @@ pub record TookSome (old new : SourceView) (limit : ℕ) : Type 0 where
 abbrev pub Took : SourceView → SourceView → ℕ → Result Taken ReadRefusal → Type 0
 Took old new limit (Ok (Whole bytes)) = TookWhole old new limit bytes.items
 Took old new limit (Ok Beyond) = TookBeyond old new limit
-Took old new limit (Err ReadFailed) = TookSome old new limit × Rose old.faults new.faults
+Took old new limit (Err ReadFailed) = TookSome old new limit × HasRisen old.faults new.faults
 Took old new limit (Err Memory) = TookSome old new limit
 
 -- one piece is read and kept: its bytes go from the front of the source to the end of what is held

@@ -1,6 +1,6 @@
 //! Ports over std's readers and writers: the trusted edge, which tells no bytes.
 ghost use Rattle.std.specs.Prelude.{◌≡◌, ◌<◌, length, None, OnOk, OnErr};
-ghost use Rattle.byte_ports.specs.Counts.{raised};
+ghost use Rattle.counts.specs.Raised.{raised};
 
 use crate::{Failed, Sink, Source};
 use std::io::{Read, Write};

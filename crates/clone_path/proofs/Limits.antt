@@ -8,7 +8,7 @@ use Rattle.shadow_node.specs.Forest.{PlainForest, none, node, node_count, depth_
 use Rattle.shadow_node.specs.Fields.{SettledFields, contents_of}
 use Rattle.shadow_node.specs.Limits.{IsForestWithin}
 use Rattle.shadow_node.specs.Sound.{FitsLeaf}
-use Rattle.clone_path.specs.Changed.{changed_at}
+use Rattle.clone_path.specs.Changed.{forest_edited_at}
 use Rattle.clone_path.proofs.Tags.{all_tags, all_tags-node}
 
 module _ (tag : ℕ) (change : NodeEdit) where
@@ -17,22 +17,22 @@ module _ (tag : ℕ) (change : NodeEdit) where
   same_tag settled true = refl
   same_tag settled false = refl
 
-  same_tags : (forest : PlainForest SettledFields) → all_tags (changed_at tag change forest) ≡ all_tags forest
+  same_tags : (forest : PlainForest SettledFields) → all_tags (forest_edited_at tag change forest) ≡ all_tags forest
   same_tags none = refl
   same_tags (node settled children siblings) =
-      all_tags-node (cond (nat_eq settled.fields.tag tag) (edited_settled change settled) settled) (changed_at tag change children) (changed_at tag change siblings)
+      all_tags-node (cond (nat_eq settled.fields.tag tag) (edited_settled change settled) settled) (forest_edited_at tag change children) (forest_edited_at tag change siblings)
       ∙ rw (same_tag settled (nat_eq settled.fields.tag tag), same_tags children, same_tags siblings) refl
       ∙ sym (all_tags-node settled children siblings)
 
-  same_depth : (forest : PlainForest SettledFields) → depth_of (contents_of (changed_at tag change forest)) ≡ depth_of (contents_of forest)
+  same_depth : (forest : PlainForest SettledFields) → depth_of (contents_of (forest_edited_at tag change forest)) ≡ depth_of (contents_of forest)
   same_depth none = refl
   same_depth (node settled children siblings) = rw (same_depth children, same_depth siblings) refl
 
-  same_count : (forest : PlainForest SettledFields) → node_count (contents_of (changed_at tag change forest)) ≡ node_count (contents_of forest)
+  same_count : (forest : PlainForest SettledFields) → node_count (contents_of (forest_edited_at tag change forest)) ≡ node_count (contents_of forest)
   same_count none = refl
   same_count (node settled children siblings) = rw (same_count children, same_count siblings) refl
 
-  pub changed_within : (forest : PlainForest SettledFields) → IsForestWithin (contents_of forest) → IsForestWithin (contents_of (changed_at tag change forest))
+  pub changed_within : (forest : PlainForest SettledFields) → IsForestWithin (contents_of forest) → IsForestWithin (contents_of (forest_edited_at tag change forest))
   changed_within forest h = record {
     differ = subst (IsDistinct nat_eq) (sym (same_tags forest)) h.differ;
     depth = subst (λ n. n ≤ 48) (sym (same_depth forest)) h.depth;
@@ -40,7 +40,7 @@ module _ (tag : ℕ) (change : NodeEdit) where
   }
 
   -- a leaf has no children to change
-  pub fits_leaf : (is_leaf : Bool) (children : PlainForest SettledFields) → FitsLeaf is_leaf children → FitsLeaf is_leaf (changed_at tag change children)
+  pub fits_leaf : (is_leaf : Bool) (children : PlainForest SettledFields) → FitsLeaf is_leaf children → FitsLeaf is_leaf (forest_edited_at tag change children)
   fits_leaf true none h = tt
   fits_leaf true (node settled children siblings) h = absurd h
   fits_leaf false children h = tt

@@ -8,12 +8,12 @@ use Rattle.shadow_node.specs.Edit.{edited_settled}
 use Rattle.shadow_node.specs.Forest.{PlainForest, none, node}
 use Rattle.shadow_node.specs.Fields.{SettledFields}
 use Rattle.shadow_node.specs.Find.{first_settled}
-use Rattle.clone_path.specs.Changed.{changed_at}
+use Rattle.clone_path.specs.Changed.{forest_edited_at}
 use Rattle.clone_path.proofs.Tags.{all_tags, all_tags-node, found_here, found_past, found_apart, none_found, none_of_two, distinct_in_first, distinct_in_second, each_in_first, each_in_second}
 
 module _ (tag : ℕ) (change : NodeEdit) where
   -- without a node of the tag nothing is changed
-  pub unchanged : (forest : PlainForest SettledFields) → is_some (first_settled tag forest) ≡ false → changed_at tag change forest ≡ forest
+  pub unchanged : (forest : PlainForest SettledFields) → is_some (first_settled tag forest) ≡ false → forest_edited_at tag change forest ≡ forest
   unchanged none h = refl
   unchanged (node settled children siblings) h =
       let other : settled.fields.tag ≢ tag = λ same. let here = found_here tag settled children siblings same in cc in
@@ -23,7 +23,7 @@ module _ (tag : ℕ) (change : NodeEdit) where
   module _ (settled : SettledFields) (children siblings : PlainForest SettledFields) where
     -- the first node is the one of the tag
     pub changed_here : settled.fields.tag ≡ tag → IsDistinct nat_eq (all_tags (node settled children siblings))
-        → changed_at tag change (node settled children siblings) ≡ node (edited_settled change settled) children siblings
+        → forest_edited_at tag change (node settled children siblings) ≡ node (edited_settled change settled) children siblings
     unfolding IsDistinct
     changed_here same differ =
         let apart : IsDistinct nat_eq (settled.fields.tag ∷ all_tags children ++ all_tags siblings) = subst (IsDistinct nat_eq) (all_tags-node settled children siblings) differ in
@@ -37,7 +37,7 @@ module _ (tag : ℕ) (change : NodeEdit) where
 
     -- the node of the tag is below the first node
     pub changed_below : settled.fields.tag ≢ tag → is_some (first_settled tag children) ≡ true → IsDistinct nat_eq (all_tags (node settled children siblings))
-        → changed_at tag change (node settled children siblings) ≡ node settled (changed_at tag change children) siblings
+        → forest_edited_at tag change (node settled children siblings) ≡ node settled (forest_edited_at tag change children) siblings
     unfolding IsDistinct
     changed_below other found differ =
         let apart : IsDistinct nat_eq (settled.fields.tag ∷ all_tags children ++ all_tags siblings) = subst (IsDistinct nat_eq) (all_tags-node settled children siblings) differ in
@@ -48,7 +48,7 @@ module _ (tag : ℕ) (change : NodeEdit) where
 
     -- no node of the first tree has the tag
     pub changed_past : settled.fields.tag ≢ tag → is_some (first_settled tag children) ≡ false
-        → changed_at tag change (node settled children siblings) ≡ node settled children (changed_at tag change siblings)
+        → forest_edited_at tag change (node settled children siblings) ≡ node settled children (forest_edited_at tag change siblings)
     changed_past other absent = rw (ne_eqb settled.fields.tag tag other, unchanged children absent) refl
 
 -- the tags below the first node differ, and so do those after its tree

@@ -6,7 +6,7 @@ use Rattle.shadow_node.specs.Fields.{SettledFields}
 use Rattle.shadow_node.specs.Edit.{edited_settled}
 
 -- a forest with a change of the nodes of that tag
-abbrev pub changed_at : ℕ → NodeEdit → PlainForest SettledFields → PlainForest SettledFields
-changed_at tag change none = none
-changed_at tag change (node settled children siblings) =
-    node (if nat_eq settled.fields.tag tag then edited_settled change settled else settled) (changed_at tag change children) (changed_at tag change siblings)
+abbrev pub forest_edited_at : ℕ → NodeEdit → PlainForest SettledFields → PlainForest SettledFields
+forest_edited_at tag change none = none
+forest_edited_at tag change (node settled children siblings) =
+    node (if nat_eq settled.fields.tag tag then edited_settled change settled else settled) (forest_edited_at tag change children) (forest_edited_at tag change siblings)

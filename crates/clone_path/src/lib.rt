@@ -13,7 +13,7 @@ ghost use Rattle.shadow_node.specs.Forest.{forest_of};
 ghost use Rattle.shadow_node.specs.InRange.{IsEditInRange};
 ghost use Rattle.shadow_node.specs.Limits.{IsForestWithin};
 ghost use Rattle.shadow_node.specs.Sound.{FitsLeaf};
-ghost use Rattle.clone_path.specs.Changed.{changed_at};
+ghost use Rattle.clone_path.specs.Changed.{forest_edited_at};
 
 #[cfg(test)]
 mod tests;
@@ -44,15 +44,10 @@ fn edited_node(
     ensures node { IfOk result (λ new. new.value ≡ record { fields = edited_settled change.now node.now.fields; children = node.now.children }) }
     ensures made { OnOk result (made.new ≡ one_node_more made.old) }
 {
-    node.is_sound();
     let parts = Parts {
-        tag: node.tag(),
-        kind: node.kind(),
         props: node_table().merge(&node.props(), &change.rows),
         label: label_after(node, change)?,
-        state: node.state(),
-        frame: node.frame(),
-        children: node.children().share()?,
+        ..node.with_children(node.children().share()?)?
     };
     ShadowNode::make(alloc, made, parts)
 }
@@ -68,17 +63,7 @@ fn node_above(
     ensures node { IfOk result (λ new. new.value ≡ record { fields = node.now.fields; children = children }) }
     ensures made { OnOk result (made.new ≡ one_node_more made.old) }
 {
-    node.is_sound();
-    let parts = Parts {
-        tag: node.tag(),
-        kind: node.kind(),
-        props: node.props(),
-        label: node.label().share()?,
-        state: node.state(),
-        frame: node.frame(),
-        children,
-    };
-    ShadowNode::make(alloc, made, parts)
+    ShadowNode::make(alloc, made, node.with_children(children)?)
 }
 
 /// The forest of these nodes with another one at that index; all others are shared.
@@ -113,7 +98,7 @@ pub fn replace_at(
     requires tags { IsDistinct nat_eq (tags_of (contents_of forest.now)) }
     requires change { IsEditInRange change.now }
     ensures found { IfOk result (λ found. is_some found ≡ is_some (first_settled tag forest.now)) }
-    ensures forest { IfOk result (λ found. IfSome found (λ changed. changed ≡ changed_at tag change.now forest.now)) }
+    ensures forest { IfOk result (λ found. IfSome found (λ changed. changed ≡ forest_edited_at tag change.now forest.now)) }
     ensures within { IfOk result (λ found. IfSome found (λ changed. IsForestWithin (contents_of forest.now) → IsForestWithin (contents_of changed))) }
     ensures made { OnOk result (made.new ≡ nodes_more made.old (length (unwrap_or (way_to tag forest.now) []))) }
 {

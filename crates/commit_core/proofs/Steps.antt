@@ -3,7 +3,7 @@ use Rattle.std.proofs.Common.{◌≡◌, ℕ, ◌-◌, ◌≤◌, List, [], ◌�
 use Rattle.std.proofs.lemmas.List.{take-append-drop, take-append-le, append-nil}
 use Rattle.std.specs.Prelude.{Some}
 use Rattle.shadow_frame.specs.declared.Size.{Size}
-use Rattle.native_state.specs.Made.{raised}
+use Rattle.counts.specs.Raised.{raised}
 use Rattle.tree_revision.specs.declared.record.Op.{Op}
 use Rattle.tree_revision.specs.declared.record.Record.{Record}
 use Rattle.tree_revision.specs.declared.record.Cancel.{Cancel}
@@ -17,7 +17,7 @@ use Rattle.commit_core.specs.declared.committer.Phase.{Phase}
 use Rattle.commit_core.specs.declared.committer.Phase.TheVariants.{Fresh, Ready, Ended}
 use Rattle.commit_core.specs.declared.committer.Committer.{Committer}
 use Rattle.commit_core.specs.declared.committer.Progress.{Progress}
-use Rattle.commit_core.specs.Events.{MayBeTried, HasLooked, IsClearLook, IsCancelledLook, IsAdmittedOffer, IsLookInVain, IsReadyFor, IsEvent, committer_in}
+use Rattle.commit_core.specs.Events.{MayBeTried, IsClearLook, IsCancelledLook, IsAdmittedOffer, IsLookInVain, IsReadyFor, IsEvent, committer_in}
 
 -- the first of some records, of which more came
 pub take_begins : (longer shorter : List PlainRecord) (count : ℕ) → BeginsWith longer shorter → count ≤ length shorter → take count longer ≡ take count shorter
@@ -44,17 +44,6 @@ last_follows first before [] entry all = subst (λ list. MayFollow first list en
 last_follows first before (e ∷ entries) entry all =
     subst (λ list. MayFollow first list entry) (append_assoc before (e ∷ []) entries) (last_follows first (before ++ e ∷ []) entries entry all.1)
 
--- an answered look, whatever came after
-has_looked : (old new : Told) (front : KeptRevision) → IsLook old new front → HasLooked old new
-has_looked old new front look = record {
-  looks = look.looks;
-  own = look.own;
-  permits = look.permits;
-  whole = look.whole;
-  seen_whole = look.seen_whole;
-  fresh = omega (arith, look.fresh, look.stands.newest.number);
-}
-
 pub clear_look : (old new : Told) (committer : Committer) (entry : Record) (op : Op) (front next now : KeptRevision) (tries number : ℕ)
     → MayBeTried old.first old.seen committer.held (plain_record entry) → Lasts old new → IsLook old new front
     → op ≡ entry.op.value
@@ -71,7 +60,7 @@ clear_look old new committer entry op front next now tries number may lasts look
     let next_number : next.newest.number - 1 ≡ number = omega (arith, reached, stands.newest.number, length-append new.seen (plain_record entry ∷ [])) in
     record {
       looked = refl;
-      look = has_looked old new front look;
+      look = record { front = front; answered = look };
       at = reached;
       clear = (last_follows old.first [] new.seen (plain_record entry) stands.lawful).admitted;
       keeps = record {
@@ -95,7 +84,7 @@ cancelled_look old new before after entry op front tries number cause may lasts 
     tried_later old.first new.seen old.seen before.held (plain_record entry) lasts.seen may in
     record {
       looked = refl;
-      look = has_looked old new front look;
+      look = record { front = front; answered = look };
       at = at ∙ look.stands.newest.number;
       cause = subst (λ o. cancel_of old.first (plain_op o) new.seen entry.held ≡ Some cause) same_op (cancelled old.first new.seen entry.held look.stands later.stands);
       tries = count;
@@ -108,7 +97,7 @@ pub look_in_vain : (old new : Told) (committer : Committer) (entry : Record) (fr
 look_in_vain old new committer entry front may lasts look = record {
   as_before = record { same = refl; ready = rw lasts.first (tried_later old.first new.seen old.seen committer.held (plain_record entry) lasts.seen may) };
   looked = refl;
-  look = inr (has_looked old new front look);
+  look = inr (record { front = front; answered = look });
 }
 
 pub admitted_offer : (old new : Told) (before after : Committer) (entry : Record) (next now : KeptRevision) (number tries : ℕ)

@@ -7,7 +7,7 @@ use Rattle.std.proofs.lemmas.List.Sums.{sum_by-append}
 use Rattle.shadow_frame.specs.declared.Size.{Size}
 use Rattle.tree_revision.specs.Records.{PlainRecord}
 use Rattle.tree_revision.specs.Cancels.{cancel_of}
-use Rattle.tree_revision.specs.Ports.{Told, BeginsWith, Lasts}
+use Rattle.tree_revision.specs.Ports.{Told, BeginsWith, Lasts, HasLooked}
 use Rattle.tree_revision.specs.declared.record.Cancel.{Cancel}
 use Rattle.tree_revision.specs.Settled.{KeptRevision}
 use Rattle.commit_core.specs.declared.committer.Phase.{Phase}
@@ -17,7 +17,7 @@ use Rattle.tree_revision.specs.declared.record.Answer.{Answer}
 use Rattle.tree_revision.specs.declared.record.Answer.TheVariants.{Held, Admitted, Cancelled, Mounted, Empty}
 use Rattle.commit_core.specs.declared.committer.Progress.{Progress}
 use Rattle.commit_core.specs.declared.committer.Progress.TheVariants.{Looked, Again, Busy, Done, Memory}
-use Rattle.commit_core.specs.Events.{entry_of, looked_at, HasLooked, IsClearLook, IsCancelledLook, IsAdmittedOffer, IsLateOffer, IsEnd, IsEvent}
+use Rattle.commit_core.specs.Events.{entry_under_way, looked_at, IsClearLook, IsCancelledLook, IsAdmittedOffer, IsLateOffer, IsEnd, IsEvent}
 use Rattle.commit_core.specs.Tries.{clear_numbers, looked_below, TriesHaveRoom}
 use Rattle.commit_core.proofs.Steps.{take_begins}
 
@@ -107,7 +107,7 @@ below_ready (Fresh entry) told number some = some_none (sym some)
 below_ready (Ready entry next now) told number some = refl
 below_ready Ended told number some = some_none (sym some)
 
-below_again : (phase : Phase) (told : Told) (entry : PlainRecord) → looked_at phase ≡ None → entry_of phase ≡ Some entry
+below_again : (phase : Phase) (told : Told) (entry : PlainRecord) → looked_at phase ≡ None → entry_under_way phase ≡ Some entry
     → looked_below phase told ≡ min told.floor (length told.seen + 1)
 below_again (Fresh e) told entry none some = refl
 below_again (Ready e next now) told entry none some = some_none none
@@ -115,21 +115,21 @@ below_again Ended told entry none some = some_none (sym some)
 
 -- the tries before a look have room below the number looked at
 look_room : (old new : Told) (before : Committer) (entry : PlainRecord) (from : ℕ) → Lasts old new → looked_at before.phase ≡ None
-    → HasLooked old new → entry_of before.phase ≡ Some entry → TriesHaveRoom from old before
+    → HasLooked old new → entry_under_way before.phase ≡ Some entry → TriesHaveRoom from old before
     → before.tries ≤ clear_numbers old.first new.seen entry from (length new.seen)
 look_room old new before entry from lasts none look is_entry room =
     omega (
       arith,
       room.room entry is_entry,
       clear_more old.first new.seen old.seen entry from (looked_below before.phase old) (length new.seen) lasts.seen (below_seen before.phase old)
-          (omega (arith, below_floor before.phase old none, look.fresh)),
+          (omega (arith, below_floor before.phase old none, look.answered.fresh, look.answered.stands.newest.number)),
     )
 
 pub room_after_clear : (old new : Told) (before after : Committer) (number from : ℕ) → from ≤ length old.seen → Lasts old new
     → IsClearLook old new before after number → TriesHaveRoom from old before → TriesHaveRoom from new after
 room_after_clear old new before after number from low lasts event room = record {
   room = λ entry is_entry.
-      let was : entry_of before.phase ≡ Some entry = sym event.keeps.entry ∙ is_entry in
+      let was : entry_under_way before.phase ≡ Some entry = sym event.keeps.entry ∙ is_entry in
       let tried : before.tries ≤ clear_numbers old.first new.seen entry from (length new.seen) =
       look_room old new before entry from lasts event.looked event.look was room in
       let clear : cancel_of old.first entry.op new.seen entry.held ≡ None = rw was at event.clear in
@@ -149,7 +149,7 @@ pub room_after_late : (old new : Told) (before after : Committer) (found from : 
     → IsLateOffer old new before after found → TriesHaveRoom from old before → TriesHaveRoom from new after
 room_after_late old new before after found from lasts event room = record {
   room = λ entry is_entry.
-      let was : entry_of before.phase ≡ Some entry = sym event.keeps.entry ∙ is_entry in
+      let was : entry_under_way before.phase ≡ Some entry = sym event.keeps.entry ∙ is_entry in
       let below : looked_below after.phase new ≡ looked_below before.phase old =
       omega (
         arith,
@@ -186,13 +186,13 @@ below_rises (Ready entry next now) old new lasts = omega (arith, lasts.seen.with
 below_rises Ended old new lasts = omega arith
 
 -- a commit that has ended tries no more
-room_ended : (from : ℕ) (told : Told) (committer : Committer) → entry_of committer.phase ≡ None → looked_at committer.phase ≡ None → TriesHaveRoom from told committer
+room_ended : (from : ℕ) (told : Told) (committer : Committer) → entry_under_way committer.phase ≡ None → looked_at committer.phase ≡ None → TriesHaveRoom from told committer
 room_ended from told committer ended none = record {
   room = λ entry some. some_none (sym some ∙ ended);
   once = λ number some. some_none (sym some ∙ none);
 }
 
-no_look : (phase : Phase) → entry_of phase ≡ None → looked_at phase ≡ None
+no_look : (phase : Phase) → entry_under_way phase ≡ None → looked_at phase ≡ None
 no_look (Fresh entry) ended = refl
 no_look (Ready entry next now) ended = some_none ended
 no_look Ended ended = refl
@@ -216,7 +216,7 @@ room_goes_on old new before after Memory from low lasts event room =
     subst (TriesHaveRoom from new) (sym event.as_before.same) (room_stays old new before from lasts (below_rises before.phase old new lasts) room)
 
 pub room_at_cancel : (old new : Told) (before after : Committer) (number count from : ℕ) (found : Cancel) (entry : PlainRecord) → Lasts old new
-    → IsCancelledLook old new before after number count found → TriesHaveRoom from old before → entry_of before.phase ≡ Some entry
+    → IsCancelledLook old new before after number count found → TriesHaveRoom from old before → entry_under_way before.phase ≡ Some entry
     → (1 ≤ count) × (count ≤ clear_numbers old.first new.seen entry from number + 1)
 room_at_cancel old new before after number count from found entry lasts event room is_entry = (
   omega (arith, event.tries),

@@ -1,7 +1,7 @@
 -- What one event of a commit says.
 use Rattle.std.specs.Prelude.{◌≡◌, ◌≢◌, ◌⊎◌, ℕ, ◌-◌, ◌≤◌, ◌<◌, List, [], ◌∷◌, ◌++◌, length, take, Option, Some, None, option_and_then}
 use Rattle.shadow_frame.specs.declared.Size.{Size}
-use Rattle.native_state.specs.Made.{raised}
+use Rattle.counts.specs.Raised.{raised, HasRisen}
 use Rattle.tree_revision.specs.declared.record.Cancel.{Cancel}
 use Rattle.tree_revision.specs.declared.record.Answer.{Answer}
 use Rattle.tree_revision.specs.declared.record.Answer.TheVariants.{Held, Admitted, Cancelled, Mounted, Empty}
@@ -10,7 +10,7 @@ use Rattle.tree_revision.specs.InRange.{IsOpInRange}
 use Rattle.tree_revision.specs.Cancels.{cancel_of}
 use Rattle.tree_revision.specs.Settled.{KeptRevision}
 use Rattle.tree_revision.specs.Stands.{StandsFor}
-use Rattle.tree_revision.specs.Ports.{Told, Stays, IsOffer}
+use Rattle.tree_revision.specs.Ports.{Told, HasLooked, Stays, IsOffer}
 use Rattle.commit_core.specs.declared.committer.Phase.{Phase}
 use Rattle.commit_core.specs.declared.committer.Phase.TheVariants.{Fresh, Ready, Ended}
 use Rattle.commit_core.specs.declared.committer.Committer.{Committer}
@@ -18,10 +18,10 @@ use Rattle.commit_core.specs.declared.committer.Progress.{Progress}
 use Rattle.commit_core.specs.declared.committer.Progress.TheVariants.{Looked, Again, Busy, Done, Memory}
 
 -- the record that is to be added, where the commit has not ended
-abbrev pub entry_of : Phase → Option PlainRecord
-entry_of (Fresh entry) = Some (plain_record entry)
-entry_of (Ready entry next now) = Some (plain_record entry)
-entry_of Ended = None
+abbrev pub entry_under_way : Phase → Option PlainRecord
+entry_under_way (Fresh entry) = Some (plain_record entry)
+entry_under_way (Ready entry next now) = Some (plain_record entry)
+entry_under_way Ended = None
 
 -- the number at which the commit looked, where it is to be offered
 abbrev pub looked_at : Phase → Option ℕ
@@ -58,26 +58,17 @@ IsReadyFor first seen committer = IsReadyIn first seen committer.held committer.
 
 -- a committer stands as before, but for its tries and for the number at which it looked
 pub record Keeps (before after : Committer) (count : ℕ) (number : Option ℕ) : Type 0 where
-  pub entry : entry_of after.phase ≡ entry_of before.phase
+  pub entry : entry_under_way after.phase ≡ entry_under_way before.phase
   pub held : after.held ≡ before.held
   pub tries : after.tries ≡ count
   pub looked : looked_at after.phase ≡ number
-
--- what a port tells after an answered look: one look more, and nothing admitted; all is seen that was reached, and the whole list where it is told
-pub record HasLooked (old new : Told) : Type 0 where
-  pub looks : new.looks ≡ raised old.looks 1
-  pub own : new.own ≡ old.own
-  pub permits : new.permits ≡ old.permits
-  pub whole : new.whole ≡ old.whole
-  pub seen_whole : (entries : List PlainRecord) → old.whole ≡ Some entries → new.seen ≡ entries
-  pub fresh : old.floor ≤ length new.seen
 
 -- a look that found no cause: one try more, and the commit is to be offered after all that is seen
 pub record IsClearLook (old new : Told) (before after : Committer) (number : ℕ) : Type 0 where
   pub looked : looked_at before.phase ≡ None
   pub look : HasLooked old new
   pub at : number ≡ length new.seen
-  pub clear : cause_after old.first new.seen (entry_of before.phase) ≡ None
+  pub clear : cause_after old.first new.seen (entry_under_way before.phase) ≡ None
   pub keeps : Keeps before after (raised before.tries 1) (Some number)
   pub ready : IsReadyFor new.first new.seen after
 
@@ -86,18 +77,18 @@ pub record IsCancelledLook (old new : Told) (before after : Committer) (number c
   pub looked : looked_at before.phase ≡ None
   pub look : HasLooked old new
   pub at : number ≡ length new.seen
-  pub cause : cause_after old.first new.seen (entry_of before.phase) ≡ Some found
+  pub cause : cause_after old.first new.seen (entry_under_way before.phase) ≡ Some found
   pub tries : count ≡ raised before.tries 1
-  pub ended : entry_of after.phase ≡ None
+  pub ended : entry_under_way after.phase ≡ None
 
 -- an offer that was admitted, of a commit that looked at all that was seen: it has ended, and that revision stands for what is seen then
 pub record IsAdmittedOffer (old new : Told) (before after : Committer) (number count : ℕ) (share : Option KeptRevision) : Type 0 where
   pub looked : looked_at before.phase ≡ Some (length old.seen)
   pub entry : PlainRecord
-  pub is_entry : entry_of before.phase ≡ Some entry
+  pub is_entry : entry_under_way before.phase ≡ Some entry
   pub offer : IsOffer old new entry number
   pub tries : count ≡ before.tries
-  pub ended : entry_of after.phase ≡ None
+  pub ended : entry_under_way after.phase ≡ None
   pub revision : KeptRevision
   pub now : share ≡ Some revision
   pub stands : StandsFor new.first revision new.seen
@@ -117,11 +108,11 @@ pub record IsAsBefore (old new : Told) (before after : Committer) : Type 0 where
   pub same : after ≡ before
   pub ready : IsReadyFor new.first new.seen after
 
--- an event that found the port busy
+-- an event that found the port busy once more: that count rose, or stands at its last value
 pub record IsBusyEvent (old new : Told) (before after : Committer) : Type 0 where
   pub as_before : IsAsBefore old new before after
   pub stays : Stays old new
-  pub busy : old.busy < new.busy
+  pub busy : HasRisen old.busy new.busy
 
 -- a look for which there was no memory, or not for the revision after it
 pub record IsLookInVain (old new : Told) (before after : Committer) : Type 0 where

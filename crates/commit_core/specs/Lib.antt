@@ -1,4 +1,3 @@
-pub mod OneProof
 pub mod Plain
 pub mod PlainPorts
 pub mod Events

@@ -18,7 +18,7 @@ told_of port =
     plain_told port.spine.first port.spine.room (records_of port.spine) port.pass.seen port.pass.floor port.pass.looks port.begun
 
 -- this is told of a spine and a pass: the spine's first size, room and records, and what the pass has seen of them, with its floor and its looks
-pub record IsToldBy (spine : PlainSpine) (pass : PlainPass) (told : Told) : Type 0 where
+pub record IsToldOf (spine : PlainSpine) (pass : PlainPass) (told : Told) : Type 0 where
   pub mark : told.mark ≡ gnum spine.room
   pub first : told.first ≡ spine.first
   pub seen : told.seen ≡ take pass.seen (records_of spine)

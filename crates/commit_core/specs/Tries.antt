@@ -8,7 +8,7 @@ use Rattle.tree_revision.specs.Ports.{Told}
 use Rattle.commit_core.specs.declared.committer.Phase.{Phase}
 use Rattle.commit_core.specs.declared.committer.Phase.TheVariants.{Fresh, Ready, Ended}
 use Rattle.commit_core.specs.declared.committer.Committer.{Committer}
-use Rattle.commit_core.specs.Events.{entry_of, looked_at}
+use Rattle.commit_core.specs.Events.{entry_under_way, looked_at}
 
 -- how many numbers, from one on and below another, have no cause for a record after that many of some records
 abbrev pub clear_numbers : Size → List PlainRecord → PlainRecord → (from below : ℕ) → ℕ
@@ -23,6 +23,6 @@ looked_below Ended told = 0
 
 -- each try of a commit had a number of its own, from one on, at which it had no cause
 pub record TriesHaveRoom (from : ℕ) (told : Told) (committer : Committer) : Type 0 where
-  pub room : (entry : PlainRecord) → entry_of committer.phase ≡ Some entry
+  pub room : (entry : PlainRecord) → entry_under_way committer.phase ≡ Some entry
       → committer.tries ≤ clear_numbers told.first told.seen entry from (looked_below committer.phase told)
   pub once : (number : ℕ) → looked_at committer.phase ≡ Some number → 1 ≤ committer.tries

@@ -10,7 +10,7 @@ ghost use Rattle.tree_revision.specs.Ports.{Lasts};
 ghost use Rattle.tree_revision.specs.declared.record.Cancel.{Cancel as CancelValue};
 ghost use Rattle.tree_revision.specs.declared.next.PrepareRefusal.TheVariants.{Cancel as CancelRefusal};
 ghost use Rattle.commit_core.specs.declared.committer.Phase.TheVariants.{Fresh, Ready, Ended};
-ghost use Rattle.commit_core.specs.Events.{entry_of, looked_at, MayBeTried, IsReadyFor, IsEvent, committer_in};
+ghost use Rattle.commit_core.specs.Events.{entry_under_way, looked_at, MayBeTried, IsReadyFor, IsEvent, committer_in};
 
 use shadow_node::Made;
 use std::alloc::Global;
@@ -73,7 +73,7 @@ impl Committer {
     pub fn start(entry: Record, held: Revision) -> Committer
         requires held { entry.held ≡ held.newest.number }
         requires op { IsOpInRange (plain_op entry.op.value) }
-        ensures entry { entry_of result.phase ≡ Some (plain_record entry) }
+        ensures entry { entry_under_way result.phase ≡ Some (plain_record entry) }
         ensures held { result.held ≡ held }
         ensures tries { result.tries ≡ 0 }
         ensures looked { looked_at result.phase ≡ None }
@@ -88,7 +88,7 @@ impl Committer {
 
     /// Whether it has ended.
     pub fn is_done(&self) -> bool
-        ensures { result ≡ is_none (entry_of self.now.phase) }
+        ensures { result ≡ is_none (entry_under_way self.now.phase) }
     {
         matches!(self.phase, Phase::Ended)
     }

@@ -9,8 +9,8 @@ ghost use Rattle.commit_core.specs.declared.committer.Committer.{Committer};
 ghost use Rattle.commit_core.specs.declared.committer.Progress.{Progress};
 ghost use Rattle.commit_core.specs.declared.plain_parts.PlainSpine.{PlainSpine};
 ghost use Rattle.commit_core.specs.declared.plain_parts.PlainPass.{PlainPass};
-ghost use Rattle.commit_core.specs.PlainPorts.{records_of, IsToldBy};
-ghost use Rattle.commit_core.specs.Events.{entry_of, looked_at, IsEvent, IsCancelledLook, IsAdmittedOffer};
+ghost use Rattle.commit_core.specs.PlainPorts.{records_of, IsToldOf};
+ghost use Rattle.commit_core.specs.Events.{entry_under_way, looked_at, IsEvent, IsCancelledLook, IsAdmittedOffer};
 ghost use Rattle.commit_core.specs.Tries.{clear_numbers, TriesHaveRoom};
 
 /// Each try of a commit has a number of its own at which it had no cause, from any number on that
@@ -20,11 +20,11 @@ pub fn tries_have_room()
     ensures starts { (from : ℕ) (told : Told) (committer : Committer) → committer.tries ≡ 0 → looked_at committer.phase ≡ None → TriesHaveRoom from told committer }
     ensures lasts { (old new : Told) (committer : Committer) (from : ℕ) → Lasts old new → TriesHaveRoom from old committer → TriesHaveRoom from new committer }
     ensures goes_on { (old new : Told) (before after : Committer) (progress : Progress) (from : ℕ) → from ≤ length old.seen → Lasts old new → IsEvent old new before after progress → TriesHaveRoom from old before → TriesHaveRoom from new after }
-    ensures cancelled { (old new : Told) (before after : Committer) (number count from : ℕ) (found : Cancel) (entry : PlainRecord) → Lasts old new → IsCancelledLook old new before after number count found → TriesHaveRoom from old before → entry_of before.phase ≡ Some entry → (1 ≤ count) × (count ≤ clear_numbers old.first new.seen entry from number + 1) }
+    ensures cancelled { (old new : Told) (before after : Committer) (number count from : ℕ) (found : Cancel) (entry : PlainRecord) → Lasts old new → IsCancelledLook old new before after number count found → TriesHaveRoom from old before → entry_under_way before.phase ≡ Some entry → (1 ≤ count) × (count ≤ clear_numbers old.first new.seen entry from number + 1) }
     ensures admitted { (old new : Told) (before after : Committer) (number count from : ℕ) (share : Option KeptRevision) → from ≤ length old.seen → Lasts old new → (event : IsAdmittedOffer old new before after number count share) → TriesHaveRoom from old before → (1 ≤ count) × (count ≤ clear_numbers old.first new.seen event.entry from (number - 1) + 1) }
 {}
 
 /// As others commit on a history in one hand, a pass has seen the same, and no count falls.
 pub fn a_pass_keeps_what_it_saw()
-    ensures { (earlier later : PlainSpine) (pass : PlainPass) (old new : Told) → pass.floor ≤ length (records_of earlier) → BeginsWith (records_of later) (records_of earlier) → later.first ≡ earlier.first → later.room ≡ earlier.room → IsToldBy earlier pass old → IsToldBy later pass new → (new.seen ≡ old.seen) × Lasts old new }
+    ensures { (earlier later : PlainSpine) (pass : PlainPass) (old new : Told) → pass.floor ≤ length (records_of earlier) → BeginsWith (records_of later) (records_of earlier) → later.first ≡ earlier.first → later.room ≡ earlier.room → IsToldOf earlier pass old → IsToldOf later pass new → (new.seen ≡ old.seen) × Lasts old new }
 {}

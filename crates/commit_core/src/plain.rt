@@ -4,7 +4,7 @@ ghost use Rattle.std.specs.Prelude.{◌≡◌, ◌≤◌, ◌<◌, [], ◌∷◌
 ghost use Rattle.tree_revision.specs.Records.{plain_record};
 ghost use Rattle.tree_revision.specs.Stands.{StandsFor};
 ghost use Rattle.commit_core.specs.Plain.{plain_records};
-ghost use Rattle.commit_core.specs.PlainPorts.{records_of, told_of, IsToldBy};
+ghost use Rattle.commit_core.specs.PlainPorts.{records_of, told_of, IsToldOf};
 
 use crate::plain_parts::{PlainPass, PlainPort, PlainSpine};
 use std::alloc::{AllocError, Global};
@@ -17,11 +17,12 @@ impl PlainSpine {
     /// A history with no records, on a surface before its first commit, with memory for `room`
     /// records. No memory holds 2^62 of them.
     pub fn start(alloc: Global, room: u64, first: Revision) -> Result<PlainSpine, AllocError>
-        requires opening { StandsFor first.newest.size first [] }
+        requires opening { first.newest.number ≡ 0 }
         ensures first { IfOk result (λ spine. spine.first ≡ first.newest.size) }
         ensures room { IfOk result (λ spine. spine.room ≡ room) }
         ensures records { IfOk result (λ spine. records_of spine ≡ []) }
     {
+        first.stands_for_none();
         if room >= TOO_MANY_RECORDS {
             return Err(AllocError);
         }
@@ -50,7 +51,7 @@ impl PlainSpine {
     /// records.
     pub fn port(self, pass: PlainPass) -> PlainPort
         requires reached { pass.floor ≤ length (records_of self) }
-        ensures told { IsToldBy self pass (told_of result) }
+        ensures told { IsToldOf self pass (told_of result) }
         ensures own { (told_of result).own ≡ [] }
     {
         let begun = self.front.number();
@@ -93,7 +94,7 @@ impl PlainSpine {
 impl PlainPort {
     /// The spine and the pass, as the port's calls left them.
     pub fn parts(self) -> (PlainSpine, PlainPass)
-        ensures told { IsToldBy result.0 result.1 (told_of self) }
+        ensures told { IsToldOf result.0 result.1 (told_of self) }
         ensures reached { result.1.floor ≤ length (records_of result.0) }
         ensures within { length (records_of result.0) ≤ result.0.room }
     {

@@ -2,7 +2,7 @@
 
 ghost use Rattle.std.specs.Prelude.{◌≤◌, ◌<◌, ◌^◌, length, vec_capacity};
 ghost use Rattle.tree_revision.specs.Stands.{StandsFor};
-ghost use Rattle.commit_core.specs.OneProof.{StandsFor-prop};
+ghost use Rattle.tree_revision.proofs.OneProof.{StandsFor-prop};
 ghost use Rattle.commit_core.specs.Plain.{plain_records};
 
 use shadow_frame::Size;

@@ -10,7 +10,8 @@ use Rattle.script_read.specs.declared.script.ScriptFault.{ScriptFault}
 use Rattle.fabric_run.specs.declared.status.Status.{Status}
 use Rattle.fabric_run.specs.declared.status.Status.TheVariants.{Done, Refused, Usage, ReadFault, WriteFault, Memory}
 use Rattle.script_read.specs.Reads.{script_in}
-use Rattle.fabric_run.specs.Outcome.{TurnsLeave, HasRisen, SourceIsRefused, IsDoneOrMemory, IsRefusedOrMemory}
+use Rattle.counts.specs.Raised.{HasRisen}
+use Rattle.fabric_run.specs.Outcome.{TurnsLeave, SourceIsRefused, IsDoneOrMemory, IsRefusedOrMemory}
 
 -- bytes are a script or have a fault, and not both
 never_both : (script : PlainScript) (fault : ScriptFault) (read : Result PlainScript ScriptFault) → read ≡ Ok script → read ≡ Err fault → ⊥

@@ -1,6 +1,6 @@
 -- What the program leaves, by its status.
 use Rattle.std.specs.Prelude.{◌≡◌, ◌⊎◌, ℕ, List, [], Ok, Err}
-use Rattle.byte_ports.specs.Counts.{Rose}
+use Rattle.counts.specs.Raised.{HasRisen}
 use Rattle.byte_ports.specs.Sources.{SourceView, IsToldAs, IsLongerThan}
 use Rattle.byte_ports.specs.Sinks.{SinkView, Whole, Part}
 use Rattle.tree_revision.specs.Script.{PlainScript}
@@ -12,10 +12,6 @@ use Rattle.run_report.specs.Legal.{IsLegal}
 use Rattle.run_report.specs.Text.{report_text}
 use Rattle.fabric_run.specs.declared.status.Status.{Status}
 use Rattle.fabric_run.specs.declared.status.Status.TheVariants.{Done, Refused, Usage, ReadFault, WriteFault, Memory}
-
--- a count of faults rose, or stands at its last value
-abbrev pub HasRisen : ℕ → ℕ → Type 0
-HasRisen = Rose
 
 -- the whole report of the script that the bytes are is appended, and nothing else; the journal that it tells is legal
 pub record IsReported (bytes : List ℕ) (old new : SinkView) : Type 0 where

@@ -5,7 +5,7 @@ use Rattle.run_report.specs.Text.{number_line}
 use Rattle.run_report.specs.TextParts.{line_end}
 use Rattle.script_read.specs.declared.script.Place.{Place}
 use Rattle.script_read.specs.declared.script.ScriptFault.{ScriptFault}
-use Rattle.script_read.specs.declared.script.ScriptFault.TheVariants.{TooLong, NotJson, Shape, Version, TooMany, BadName, BadSurface, BadKind, BadProp, BadTag, TwoMounters, BadTurn, Unbuilt}
+use Rattle.script_read.specs.declared.script.ScriptFault.TheVariants.{TooLong, NotJson, Shape, Version, TooMany, BadName, BadSurface, BadKind, BadProp, BadTag, TwoMounters, BadTurn}
 use Rattle.fabric_run.specs.declared.status.Status.{Status}
 use Rattle.fabric_run.specs.declared.status.Status.TheVariants.{Done, Refused, Usage, ReadFault, WriteFault, Memory}
 
@@ -27,7 +27,6 @@ fault_line (BadProp place) = place_line (codes "refused: 9 BadProp") place
 fault_line (BadTag place) = place_line (codes "refused: 10 BadTag") place
 fault_line (TwoMounters id) = number_line (codes "refused: 11 TwoMounters") id
 fault_line (BadTurn position) = number_line (codes "refused: 12 BadTurn") position
-fault_line Unbuilt = codes "refused: 13 Unbuilt\n"
 
 -- the line of a status; of a run that is done there is none
 abbrev pub status_line : Status → List ℕ

@@ -11,7 +11,7 @@ mod words;
 
 use byte_ports::{Sink, StdSink, StdSource};
 use run_engine::FreeGate;
-use status::{Status, code};
+use status::{Status, exit_status};
 use std::io::{BufWriter, Write};
 use std::process::ExitCode;
 use std::rt::Env;
@@ -41,10 +41,10 @@ fn handed_on<E: Sink>(err: &mut E, status: Status, flushed: io::Result<()>) -> S
 
 fn main(rt: HostRuntime) -> ExitCode {
     let Ok(words) = words_of(&rt) else {
-        return ExitCode::from(code(&Status::Memory));
+        return ExitCode::from(exit_status(&Status::Memory));
     };
     let Ok(mut blocks) = BufWriter::with_capacity(rt.alloc(), BLOCK_BYTES, io::writer(&rt)) else {
-        return ExitCode::from(code(&Status::Memory));
+        return ExitCode::from(exit_status(&Status::Memory));
     };
     let mut source = StdSource::start(rt.reader());
     let mut out = StdSink::start(&mut blocks);
@@ -59,5 +59,5 @@ fn main(rt: HostRuntime) -> ExitCode {
         &FreeGate,
     );
     drop(out);
-    ExitCode::from(code(&handed_on(&mut err, status, blocks.flush())))
+    ExitCode::from(exit_status(&handed_on(&mut err, status, blocks.flush())))
 }

@@ -1,7 +1,7 @@
 //! How the program ends.
 
 ghost use Rattle.std.specs.Prelude.{◌≡◌};
-ghost use Rattle.fabric_run.specs.Status.{code_of};
+ghost use Rattle.fabric_run.specs.Status.{exit_status_of};
 
 use script_read::ScriptFault;
 
@@ -23,8 +23,8 @@ pub enum Status {
 }
 
 /// The exit status of the process.
-pub fn code(status: &Status) -> u8
-    ensures { result ≡ code_of status.now }
+pub fn exit_status(status: &Status) -> u8
+    ensures { result ≡ exit_status_of status.now }
 {
     match status {
         Status::Done => 0,

@@ -2,7 +2,7 @@
 
 ghost use Rattle.std.specs.Prelude.{◌≤◌};
 
-use crate::status::code;
+use crate::status::exit_status;
 use crate::top::fabric_main;
 use byte_ports::{MemorySink, MemorySource};
 use run_engine::FreeGate;
@@ -79,7 +79,7 @@ fn status_of<R: Threads + Wait + Sync + AllocGlobal>(
     let bytes = Vec::from_slice(alloc, script.as_bytes())?;
     let mut source = MemorySource::start(bytes, fails).pieces(most);
     let status = fabric_main(rt, alloc, &words, &mut source, out, err, &FreeGate);
-    Ok(code(&status))
+    Ok(exit_status(&status))
 }
 
 /// A sink with that room, whose listed calls fail.

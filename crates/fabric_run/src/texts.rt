@@ -45,7 +45,6 @@ fn write_fault<E: Sink>(err: &mut E, fault: &ScriptFault) -> Result<(), Failed>
         ScriptFault::BadTag(place) => write_place_line(err, b"refused: 10 BadTag", place),
         ScriptFault::TwoMounters(id) => { write_tag_line(err, b"refused: 11 TwoMounters", *id) }
         ScriptFault::BadTurn(position) => { write_tag_line(err, b"refused: 12 BadTurn", *position) }
-        ScriptFault::Unbuilt => write_whole(err, b"refused: 13 Unbuilt\n"),
     }
 }
 

@@ -4,7 +4,8 @@ ghost use Rattle.std.specs.Prelude.{◌≡◌, ◌↔◌, ℕ, List, Some, Ok, E
 ghost use Rattle.tree_revision.specs.Script.{PlainScript};
 ghost use Rattle.script_read.specs.declared.script.ScriptFault.{ScriptFault};
 ghost use Rattle.script_read.specs.Reads.{script_in};
-ghost use Rattle.fabric_run.specs.Outcome.{TurnsLeave, HasRisen, IsDoneOrMemory, IsRefusedOrMemory};
+ghost use Rattle.counts.specs.Raised.{HasRisen};
+ghost use Rattle.fabric_run.specs.Outcome.{TurnsLeave, IsDoneOrMemory, IsRefusedOrMemory};
 ghost use Rattle.fabric_run.specs.Texts.{Tells, status_line};
 ghost use Rattle.fabric_run.specs.Words.{AreTurns};
 ghost use Rattle.fabric_run.specs.declared.status.Status.TheVariants.{Usage};

@@ -16,6 +16,7 @@ use Rattle.view_flatten.proofs.Distinct.{each_then}
 use Rattle.view_flatten.proofs.Views.{each_kind}
 use Rattle.view_mutation.specs.Mutations.{view_at}
 use Rattle.view_mutation.specs.Leads.{HaveOneKind, LeadOn}
+use Rattle.view_mutation.specs.Since.{AreTagged}
 use Rattle.view_mutation.proofs.Whole.{lead_on}
 use Rattle.tree_revision.specs.Records.{PlainRecord}
 use Rattle.shadow_node.specs.InRange.{IsTagInRange}
@@ -30,13 +31,18 @@ use Rattle.tree_revision.proofs.Tags.{lawful_tags, lawful_families}
 contents_of_history : (first : Size) (entries : List PlainRecord) → contents_of (settled_of first entries) ≡ (revision_of first entries).forest
 contents_of_history first entries = contents_of-settled (revision_of first entries).size (newest_state entries) [] (revision_of first entries).forest
 
+-- the tags of a lawful history are at least 1
+pub lawful_tagged : (first : Size) (entries : List PlainRecord) → IsLawful first entries → AreTagged (settled_of first entries)
+lawful_tagged first entries lawful =
+    subst (AllByRecursion (λ tag. 1 ≤ tag)) (sym (ap tags_of (contents_of_history first entries)))
+    (each_then IsTagInRange (λ tag. 1 ≤ tag) (λ tag h. h.low) (tags_of (revision_of first entries).forest) (lawful_tags first entries lawful).in_range)
+
 -- the host tree of a lawful history is one
 pub lawful_host_tree : (first : Size) (entries : List PlainRecord) → IsLawful first entries → IsHostTree (host_tree_of (settled_of first entries))
 lawful_host_tree first entries lawful =
     let sound = lawful_tags first entries lawful in
     let tags : tags_of (contents_of (settled_of first entries)) ≡ tags_of (revision_of first entries).forest = ap tags_of (contents_of_history first entries) in
-    let low = each_then IsTagInRange (λ tag. 1 ≤ tag) (λ tag h. h.low) (tags_of (revision_of first entries).forest) sound.in_range in
-    is_host_tree (settled_of first entries) (subst (IsDistinct nat_eq) (sym tags) sound.differ) (subst (AllByRecursion (λ tag. 1 ≤ tag)) (sym tags) low)
+    is_host_tree (settled_of first entries) (subst (IsDistinct nat_eq) (sym tags) sound.differ) (lawful_tagged first entries lawful)
 
 -- the view that is found by a tag has the kind that each view has by its tag
 kind_at : (families : List PlainFamily) (tree : PlainHostTree) (tag : ℕ) (view : HostView)

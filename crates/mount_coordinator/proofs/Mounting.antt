@@ -6,22 +6,26 @@ use Rattle.std.proofs.lemmas.Option.{same_Some}
 use Rattle.std.specs.Prelude.{Option, Some, None, unwrap_or}
 use Rattle.shadow_frame.specs.declared.Size.{Size}
 use Rattle.host_views.specs.Plain.{plain_mutation}
-use Rattle.host_views.specs.Registry.{registry_of}
 use Rattle.view_flatten.specs.HostTree.{host_tree_of}
 use Rattle.view_mutation.specs.Mutations.{mutations_between}
 use Rattle.view_mutation.specs.Leads.{LeadOn}
+use Rattle.view_mutation.specs.Since.{AreTagged}
+use Rattle.counts.specs.Raised.{raised}
+use Rattle.shadow_node.specs.Stamps.{stamp_in}
+use Rattle.shadow_node.specs.Entered.{AreAlikeSince}
 use Rattle.tree_revision.specs.Records.{PlainOp, complete, state, props, resize, stop, suspend, resume, PlainRecord}
-use Rattle.tree_revision.specs.Mountable.{still_after, still_from, mountable_of}
+use Rattle.tree_revision.specs.Mountable.{mountable_of}
 use Rattle.tree_revision.specs.Lawful.{IsLawful}
-use Rattle.tree_revision.specs.Settled.{KeptRevision}
+use Rattle.tree_revision.specs.Settled.{SettledRevision, KeptRevision}
 use Rattle.tree_revision.specs.Stands.{HasContentOf, StandsFor, settled_of}
 use Rattle.tree_revision.specs.Ports.{BeginsWith}
 use Rattle.tree_revision.proofs.Histories.{IsLawful-front}
-use Rattle.tree_revision.proofs.Mountable.{mountable_of-within, mountable_of-rises}
+use Rattle.tree_revision.proofs.Mountable.{still_after, still_from, mountable_of-still, mountable_of-within, mountable_of-rises}
 use Rattle.mount_coordinator.specs.declared.coordinator.Transaction.{Transaction}
-use Rattle.mount_coordinator.specs.Mounted.{PlainCoordinator, IsMounted, IsMountedIn}
-use Rattle.mount_coordinator.specs.Answers.{IsTransaction}
-use Rattle.mount_coordinator.proofs.HostTrees.{histories_lead_on}
+use Rattle.mount_coordinator.specs.Mounted.{PlainCoordinator, IsBaseOf, IsBaseIn, entered_from}
+use Rattle.mount_coordinator.specs.Answers.{IsTransaction, IsNothingNewer}
+use Rattle.mount_coordinator.proofs.HostTrees.{lawful_tagged, histories_lead_on}
+use Rattle.mount_coordinator.proofs.Alike.{alike_since}
 
 -- mounting stood still at that number before some records, or it went on up to there
 abbrev StoodStill : (number : ℕ) → Option ℕ → List PlainRecord → ℕ → Type 0
@@ -55,41 +59,46 @@ stood_still number still (entry ∷ entries) at e =
           inr (omega arith, ap (λ n. still_from number still (take n (entry ∷ entries))) more ∙ later.1)
     ]
 
--- of the first records that may be mounted all may be mounted, by where mounting stands still
-mountable_of-still : (entries : List PlainRecord) (still : Option ℕ) → still_from 0 None entries ≡ still
+-- of as many records as mounting stands still at all may be mounted
+all_mountable : (entries : List PlainRecord) (still : Option ℕ) → still_from 0 None entries ≡ still → unwrap_or still (length entries) ≤ length entries
     → mountable_of (take (unwrap_or still (length entries)) entries) ≡ unwrap_or still (length entries)
-mountable_of-still entries None e = ap mountable_of (take_all (length entries) entries (omega arith)) ∙ ap (λ still. unwrap_or still (length entries)) e
-mountable_of-still entries (Some at) e =
-    let within : at ≤ length entries = subst (λ still. unwrap_or still (length entries) ≤ length entries) e (mountable_of-within entries) in
+all_mountable entries None e within =
+    ap mountable_of (take_all (length entries) entries (omega arith)) ∙ mountable_of-still entries ∙ ap (λ still. unwrap_or still (length entries)) e
+all_mountable entries (Some at) e within =
     elim (stood_still 0 None entries at e) as (λ s. mountable_of (take at entries) ≡ at) [
       | inl impossible ↦ absurd cc
       | inr on ↦
           let none : still_from 0 None (take at entries) ≡ None = subst (λ n. still_from 0 None (take n entries) ≡ None) (omega arith) on.1 in
-          ap (λ still. unwrap_or still (length (take at entries))) none ∙ length-take-le at entries within
+          mountable_of-still (take at entries) ∙ ap (λ still. unwrap_or still (length (take at entries))) none ∙ length-take-le at entries within
     ]
 
 -- of the first records that may be mounted all may be mounted
 pub mountable_of-mountable : (entries : List PlainRecord) → mountable_of (take (mountable_of entries) entries) ≡ mountable_of entries
-mountable_of-mountable entries = mountable_of-still entries (still_from 0 None entries) refl
+mountable_of-mountable entries =
+    let still = still_from 0 None entries in
+    let number = mountable_of-still entries in
+    let within : unwrap_or still (length entries) ≤ length entries = omega (arith, number, mountable_of-within entries) in
+    rw number (all_mountable entries still refl within)
 
--- a coordinator that was led to a front's mountable revision
-abbrev led_to : KeptRevision → PlainCoordinator
-led_to front = record { base = record { newest = front.mountable; mountable = front.mountable }; registry = registry_of (host_tree_of front.mountable.forest) }
-
--- a history of which the first records stand mounted, with a front
-module _ (first : Size) (entries : List PlainRecord) (coordinator : PlainCoordinator) (front : KeptRevision) (stands : StandsFor first front entries)
-    (mounted : IsMountedIn first entries coordinator) where
+-- a history of whose first records the base stands, with a front
+module _ (first : Size) (entries : List PlainRecord) (base : SettledRevision) (front : KeptRevision) (stands : StandsFor first front entries)
+    (mounted : IsBaseIn first entries base) where
   -- the base is one of the history
-  base_within : coordinator.base.newest.number ≤ length entries
-  base_within = omega (arith, mounted.base.newest.number, length-take coordinator.base.newest.number entries)
+  base_within : base.number ≤ length entries
+  base_within = omega (arith, mounted.newest.number, length-take base.number entries)
+
+  -- all of its records may be mounted
+  base_whole : mountable_of (take base.number entries) ≡ base.number
+  base_whole =
+      let all = take base.number entries in
+      sym (mounted.mountable.number ∙ length-take-le (mountable_of all) all (mountable_of-within all))
 
   -- it is no newer than the revision that may be mounted
-  base_below : coordinator.base.newest.number ≤ mountable_of entries
+  base_below : base.number ≤ mountable_of entries
   base_below =
-      let n = coordinator.base.newest.number in
+      let n = base.number in
       let rises = mountable_of-rises (take n entries) (drop n entries) in
-      let own : mountable_of (take n entries) ≡ n = mounted.mountable ∙ length-take-le n entries base_within in
-      subst (λ m. m ≤ mountable_of entries) own (subst (λ l. mountable_of (take n entries) ≤ mountable_of l) (take-append-drop n entries) rises)
+      subst (λ m. m ≤ mountable_of entries) base_whole (subst (λ l. mountable_of (take n entries) ≤ mountable_of l) (take-append-drop n entries) rises)
 
   -- the number of the revision that may be mounted
   mountable_number : front.mountable.number ≡ mountable_of entries
@@ -102,62 +111,82 @@ module _ (first : Size) (entries : List PlainRecord) (coordinator : PlainCoordin
       IsLawful-front first (take m entries) (drop m entries) (subst (IsLawful first) (sym (take-append-drop m entries)) stands.lawful)
 
   -- the mutations from the base to the revision that may be mounted lead on
-  pub leads : LeadOn (host_tree_of coordinator.base.newest.forest) (host_tree_of front.mountable.forest)
+  pub leads : LeadOn (host_tree_of base.forest) (host_tree_of front.mountable.forest)
   leads =
-      let n = coordinator.base.newest.number in
+      let n = base.number in
       let all = take (mountable_of entries) entries in
       let parts : take n entries ++ drop n all ≡ all =
       ap (λ l. l ++ drop n all) (sym (take-take n (mountable_of entries) entries base_below)) ∙ take-append-drop n all in
-      let old = mounted.base.newest.forest in
+      let old = mounted.newest.forest in
       let new = stands.mountable.forest in
       let led = histories_lead_on first (take n entries) (drop n all) (subst (IsLawful first) (sym parts) front_lawful) in
-      subst (λ forest. LeadOn (host_tree_of coordinator.base.newest.forest) (host_tree_of forest)) (sym new)
+      subst (λ forest. LeadOn (host_tree_of base.forest) (host_tree_of forest)) (sym new)
       (subst (λ forest. LeadOn (host_tree_of forest) (host_tree_of (settled_of first all))) (sym old)
       (subst (λ l. LeadOn (host_tree_of (settled_of first (take n entries))) (host_tree_of (settled_of first l))) parts led))
 
-  -- then the first records that may be mounted stand mounted
-  moved : IsMounted first (led_to front) (take (mountable_of entries) entries)
+  -- the tags of both are at least 1
+  pub base_tagged : AreTagged base.forest
+  base_tagged = subst AreTagged (sym mounted.newest.forest) (lawful_tagged first (take base.number entries) mounted.lawful)
+
+  pub front_tagged : AreTagged front.mountable.forest
+  front_tagged = subst AreTagged (sym stands.mountable.forest) (lawful_tagged first (take (mountable_of entries) entries) front_lawful)
+
+  -- what is unchanged since the base stands there as it stands now
+  pub front_alike : AreAlikeSince (stamp_in front.mountable.stamps) base.number base.forest front.mountable.forest
+  front_alike =
+      let all = take (mountable_of entries) entries in
+      let same : take base.number entries ≡ take base.number all = sym (take-take base.number (mountable_of entries) entries base_below) in
+      let low : base.number ≤ length all = omega (arith, base_below, length-take-le (mountable_of entries) entries (mountable_of-within entries)) in
+      alike_since first all base front.mountable (subst (HasContentOf first base) same mounted.newest) stands.mountable low
+
+  -- the revision that may be mounted stands for the first records that may be mounted
+  moved : IsBaseOf first front.mountable (take (mountable_of entries) entries)
   moved =
-      let m = mountable_of entries in
-      let all = take m entries in
-      let count : length all ≡ m = length-take-le m entries (mountable_of-within entries) in
+      let all = take (mountable_of entries) entries in
+      let count : length all ≡ mountable_of entries = length-take-le (mountable_of entries) entries (mountable_of-within entries) in
       let again : take (mountable_of all) all ≡ all = take_all (mountable_of all) all (omega (arith, mountable_of-mountable entries, count)) in
       record {
-        base = record {
-          lawful = front_lawful;
-          newest = stands.mountable;
-          mountable = subst (HasContentOf first front.mountable) (sym again) stands.mountable;
-        };
-        mountable = mountable_of-mountable entries ∙ sym count;
-        registry = ap (λ forest. registry_of (host_tree_of forest)) stands.mountable.forest;
+        lawful = front_lawful;
+        newest = stands.mountable;
+        mountable = subst (HasContentOf first front.mountable) (sym again) stands.mountable;
       }
 
+  -- where the revision that may be mounted has the base's number nothing is newer
+  pub nothing_newer : (old : PlainCoordinator) → old.base ≡ base → front.mountable.number ≡ base.number → IsNothingNewer entries old old
+  nothing_newer old from same = record { same = sym mountable_number ∙ same ∙ ap (λ base. base.number) (sym from); stays = refl }
+
   -- what leads from the base to the revision that may be mounted is a transaction
-  pub finished : (transaction : Transaction) (new : PlainCoordinator) → transaction.base ≡ coordinator.base.newest.number
-      → transaction.to ≡ front.mountable.number → front.mountable.number ≢ coordinator.base.newest.number
-      → map plain_mutation transaction.mutations ≡ mutations_between (host_tree_of coordinator.base.newest.forest) (host_tree_of front.mountable.forest)
-      → new ≡ led_to front → IsTransaction first entries coordinator new transaction
-  finished transaction new base to other led is =
+  pub finished : (transaction : Transaction) (old new : PlainCoordinator) → old.base ≡ base → transaction.base ≡ base.number
+      → transaction.to ≡ front.mountable.number → front.mountable.number ≢ base.number
+      → map plain_mutation transaction.mutations ≡ mutations_between (host_tree_of base.forest) (host_tree_of front.mountable.forest)
+      → new.base ≡ front.mountable → new.entered ≡ raised old.entered (entered_from base front.mountable) → IsTransaction first entries old new transaction
+  finished transaction old new from base_is to other led is entered =
       let at : transaction.to ≡ mountable_of entries = to ∙ mountable_number in
-      let old : coordinator.base.newest.forest ≡ settled_of first (take transaction.base entries) =
-      mounted.base.newest.forest ∙ ap (λ n. settled_of first (take n entries)) (sym base) in
+      let old_one : base.forest ≡ settled_of first (take transaction.base entries) =
+      mounted.newest.forest ∙ ap (λ n. settled_of first (take n entries)) (sym base_is) in
       let new_one : front.mountable.forest ≡ settled_of first (take transaction.to entries) =
       stands.mountable.forest ∙ ap (λ n. settled_of first (take n entries)) (sym at) in
       record {
-        base = base;
+        base = base_is ∙ ap (λ base. base.number) (sym from);
         to = at;
-        newer = omega (arith, base, to, other, at, base_below);
-        mutations = led ∙ (λ i. mutations_between (host_tree_of (old i)) (host_tree_of (new_one i)));
-        moved = ap (λ coordinator. coordinator.base.newest.number) is ∙ sym to;
-        mounted = subst (λ n. IsMounted first new (take n entries)) (sym at)
-            (subst (λ new. IsMounted first new (take (mountable_of entries) entries)) (sym is) moved);
+        newer = omega (arith, base_is, to, other, at, base_below);
+        mutations = led ∙ (λ i. mutations_between (host_tree_of (old_one i)) (host_tree_of (new_one i)));
+        moved = ap (λ base. base.number) is ∙ sym to;
+        mounted = subst (λ n. IsBaseOf first new.base (take n entries)) (sym at)
+            (subst (λ base. IsBaseOf first base (take (mountable_of entries) entries)) (sym is) moved);
+        entered = entered ∙ (λ i. raised old.entered (entered_from (sym from i) (sym is i)));
       }
 
--- what stands mounted does so too as the history grows
-pub still_mounted : (first : Size) (entries longer : List PlainRecord) (coordinator : PlainCoordinator) → BeginsWith longer entries
-    → IsMountedIn first entries coordinator → IsMountedIn first longer coordinator
-still_mounted first entries longer coordinator begins mounted =
-    let n = coordinator.base.newest.number in
-    let within : n ≤ length entries = omega (arith, mounted.base.newest.number, length-take n entries) in
+-- after a transaction the base stands for the first records up to there
+pub transacted : (first : Size) (entries : List PlainRecord) (old new : PlainCoordinator) (transaction : Transaction)
+    → IsTransaction first entries old new transaction → IsBaseIn first entries new.base
+transacted first entries old new transaction done = subst (λ n. IsBaseOf first new.base (take n entries)) (sym done.moved) done.mounted
+
+-- a base stands for the first records as the history grows too
+pub still_base : (first : Size) (entries longer : List PlainRecord) (base : SettledRevision) → BeginsWith longer entries
+    → IsBaseIn first entries base → IsBaseIn first longer base
+still_base first entries longer base begins mounted =
+    let n = base.number in
+    let within : n ≤ length entries = omega (arith, mounted.newest.number, length-take n entries) in
     let same : take n entries ≡ take n longer = ap (take n) (sym begins.same) ∙ take-take n (length entries) longer within in
-    subst (IsMounted first coordinator) same mounted
+    subst (IsBaseOf first base) same mounted

@@ -3,6 +3,8 @@
 
 mod applied;
 mod coordinator;
+#[cfg(test)]
+mod entered_tests;
 pub mod laws;
 #[cfg(test)]
 mod tests;

@@ -1,6 +1,7 @@
 -- Counts that rise twice.
 use Rattle.std.proofs.Common.{◌≡◌, ℕ, ◌+◌, ◌≤◌, ap, arith}
-use Rattle.native_state.specs.Made.{MadeCounts, raised, families_more}
+use Rattle.counts.specs.Raised.{raised}
+use Rattle.native_state.specs.Made.{MadeCounts, families_more}
 
 raised-more : (count a b c : ℕ) → c ≡ a + b → raised (raised count a) b ≡ raised count c
 raised-more count a b c is = omega arith

@@ -1,7 +1,7 @@
 -- What holds of each element of a list that is cut, joined or looked up.
 use Rattle.std.proofs.Common.{ℕ, zero, suc, ◌<◌, List, [], ◌∷◌, ◌++◌, length, get_or, take, drop, arith}
 use Rattle.std.specs.List.{AllWithin}
-use Rattle.native_state.specs.Pages.{Each}
+use Rattle.native_state.specs.Rising.{Each}
 
 module _ {X : Type 0} (P : X → Type 0) where
   pub each-append : (xs ys : List X) → Each P xs → Each P ys → Each P (xs ++ ys)

@@ -1,10 +1,11 @@
 -- Pages joined end to end, and parted at a tag.
-use Rattle.std.proofs.Common.{◌≡◌, ℕ, zero, suc, ◌+◌, ◌<◌, ◌≤◌, List, [], ◌∷◌, ◌++◌, length, get_or, take, drop, Bool, true, false, leb, refl, sym, ap, subst, ◌∙◌, arith, append_assoc, append-nil, take-append-drop, length-append}
+use Rattle.std.proofs.Common.{◌≡◌, ℕ, zero, suc, ◌+◌, ◌*◌, ◌<◌, ◌≤◌, List, [], ◌∷◌, ◌++◌, length, get_or, take, drop, Bool, true, false, leb, refl, sym, ap, subst, ◌∙◌, arith, append_assoc, append-nil, take-append-drop, length-append}
 use Rattle.std.proofs.lemmas.List.{take_more}
 use Rattle.std.specs.List.{AllWithin}
 use Rattle.std.specs.List.Sorted.{IsNonDecreasingBy, IsPartitionPoint}
 use Rattle.std.proofs.lemmas.Bool.Decides.{nat_tests}
-use Rattle.native_state.specs.Pages.{Each, AreAbove, AreBelow, AreFrom, ArePages, IsPage, IsParted, IsRising, Reaches, Shared, first_tag, joined}
+use Rattle.native_state.specs.Pages.{AreFew, AreHalfFull, ArePages, IsPage, IsParted, Reaches, Shared, first_tag, joined}
+use Rattle.native_state.specs.Rising.{Each, AreAbove, AreBelow, AreFrom, IsRising}
 use Rattle.native_state.proofs.Each.{each_at, each_left, each_right, each_with, each-append, each_taken, each_dropped}
 use Rattle.native_state.proofs.Rising.{Entries, above_lower, rising_left, rising_right}
 
@@ -140,6 +141,10 @@ module _ (tag : ℕ) (pages : List Shared) (i : ℕ) (front back : List Shared) 
         before_pages = each_left (λ page. IsPage page.value) below (page ∷ back) all;
         after_pages = here.1;
         has_room = here.0.has_room;
+        others = omega (arith, ap length is, length-append below (page ∷ back));
+        before_half_full = λ half. each_left (λ page. 32 ≤ length page.value) below (page ∷ back) (subst AreHalfFull is half);
+        after_half_full = λ half. (each_right (λ page. 32 ≤ length page.value) below (page ∷ back) (subst AreHalfFull is half)).1;
+        half_full = λ half _. (each_right (λ page. 32 ≤ length page.value) below (page ∷ back) (subst AreHalfFull is half)).0;
       }
 
   -- where no page reaches the tag, it belongs in the first
@@ -154,7 +159,58 @@ module _ (tag : ℕ) (pages : List Shared) (i : ℕ) (front back : List Shared) 
         before_pages = tt;
         after_pages = all.1;
         has_room = all.0.has_room;
+        others = omega (arith, ap length is);
+        before_half_full = λ _. tt;
+        after_half_full = λ half. (subst AreHalfFull is half).1;
+        half_full = λ half _. (subst AreHalfFull is half).0;
       }
+
+  -- where there is no page, no part has one
+  pub parted_none : length front ≡ 0 → length back ≡ 0 → IsParted pages tag [] [] []
+  parted_none none also =
+      let is : pages ≡ [] = cut ∙ ap (λ xs. xs ++ back) (no_length front none) ∙ no_length back also in
+      record {
+        whole = ap joined is;
+        below = tt;
+        above = tt;
+        before_pages = tt;
+        after_pages = tt;
+        has_room = omega arith;
+        others = omega (arith, ap length is);
+        before_half_full = λ _. tt;
+        after_half_full = λ _. tt;
+        half_full = λ _ some. absurd (omega (arith, ap length is));
+      }
+
+-- ---- pages that are half full
+
+-- one more page is shared
+pub half_full_more : (all pages : List Shared) (i : ℕ) (page shared : Shared) → i < length pages → page ≡ get_or pages i page → shared.value ≡ page.value
+    → AreHalfFull pages → AreHalfFull all → AreHalfFull (all ++ shared ∷ [])
+half_full_more all pages i page shared lt is same half were =
+    let here : 32 ≤ length (get_or pages i page).value = each_at (λ page. 32 ≤ length page.value) pages i page half lt in
+    each-append (λ page. 32 ≤ length page.value) all (shared ∷ []) were (omega (arith, here, ap (λ page. length page.value) is, ap length same), tt)
+
+-- no page at all
+pub half_full_none : (pages : List Shared) → length pages ≡ 0 → AreHalfFull pages
+half_full_none [] none = tt
+half_full_none (page ∷ pages) none = absurd (omega arith)
+
+-- what lies behind some tag of a list is reached by some page
+pub some_reaches : (pages : List Shared) (es : Entries) → Each (λ e. Reaches pages e.0) es → 1 ≤ length es → 1 ≤ length pages
+some_reaches pages [] reach some = absurd (omega arith)
+some_reaches [] (e ∷ es) reach some = absurd (let lt : e.0 < e.0 = reach.0 e.0 tt in omega arith)
+some_reaches (page ∷ pages) (e ∷ es) reach some = omega arith
+
+holds_half : (pages : List Shared) → AreHalfFull pages → 32 * length pages ≤ length (joined pages)
+holds_half [] half = omega arith
+holds_half (page ∷ pages) half = omega (arith, half.0, holds_half pages half.1, length-append page.value (joined pages))
+
+-- few pages hold many families
+pub few_hold : (pages : List Shared) → ArePages pages → AreFew pages → 32 * length pages ≤ length (joined pages) + 31
+few_hold [] are few = omega arith
+few_hold (page ∷ []) are few = omega (arith, are.0.holds_one, length-append page.value [])
+few_hold (page ∷ other ∷ pages) are few = omega (arith, holds_half (page ∷ other ∷ pages) (few (omega arith)))
 
 -- ---- the parts
 

@@ -1,14 +1,16 @@
 -- A list of families put into another, all at once.
-use Rattle.std.proofs.Common.{◌≡◌, ℕ, suc, ◌+◌, ◌^◌, ◌<◌, ◌≤◌, List, [], ◌∷◌, ◌++◌, length, get_or, take, drop, refl, sym, ap, subst, ◌∙◌, arith, append_assoc, add-one, drop-cons, take-append-drop, length-append}
+use Rattle.std.proofs.Common.{◌≡◌, ℕ, suc, ◌+◌, ◌^◌, ◌<◌, ◌≤◌, List, [], ◌∷◌, ◌++◌, length, get_or, take, drop, refl, sym, ap, subst, ◌∙◌, arith, append_assoc, add-one, drop-cons, take-append-drop, length-append, inl, inr}
+use Rattle.std.proofs.lemmas.Bool.{cases_lt}
 use Rattle.std.specs.Ordering.{nat_cmp}
 use Rattle.std.specs.FinMap.{put, from_sorted}
 use Rattle.std.proofs.lemmas.List.{take_more}
 use Rattle.native_state.specs.declared.Family.{Family}
 use Rattle.native_state.specs.Families.{all_added}
-use Rattle.native_state.specs.Pages.{AreAbove, AreBelow, ArePages, Each, IsParted, IsRising, Reaches, Shared, all_put, joined}
+use Rattle.native_state.specs.Pages.{AreFew, AreHalfFull, ArePages, IsParted, Reaches, Shared, all_put, joined}
+use Rattle.native_state.specs.Rising.{AreAbove, AreBelow, Each, IsRising}
 use Rattle.native_state.proofs.Each.{each_left, each_right, each_with, each-append}
-use Rattle.native_state.proofs.Joined.{above_rises}
-use Rattle.native_state.proofs.Rising.{Entries, rising_right, rising-put, each-put, from_sorted-put, put_after, put_before, put_between}
+use Rattle.native_state.proofs.Joined.{above_rises, half_full_none, some_reaches}
+use Rattle.native_state.proofs.Rising.{Entries, rising_right, rising-put, each-put, length-put, from_sorted-put, put_after, put_before, put_between}
 
 pub all_put-append : (es xs ys : Entries) → all_put es (xs ++ ys) ≡ all_put (all_put es xs) ys
 all_put-append es [] ys = refl
@@ -21,6 +23,11 @@ each-all_put P es (x ∷ new) h p = each-all_put P (put nat_cmp x.0 x.1 es) new 
 pub rising-all_put : (es new : Entries) → IsRising es → IsRising (all_put es new)
 rising-all_put es [] h = h
 rising-all_put es (x ∷ new) h = rising-all_put (put nat_cmp x.0 x.1 es) new (rising-put x.0 x.1 es h)
+
+-- no family is lost
+pub length-all_put : (es new : Entries) → length es ≤ length (all_put es new)
+length-all_put es [] = omega arith
+length-all_put es (x ∷ new) = omega (arith, (length-put x.0 x.1 es).0, length-all_put (put nat_cmp x.0 x.1 es) new)
 
 pub from_sorted-all_put : (es new : Entries) → IsRising es → from_sorted {R = nat_cmp} (all_put es new) ≡ all_added (from_sorted es) new
 from_sorted-all_put es [] h = refl
@@ -59,7 +66,7 @@ pub merging_none : (entries new : Entries) → IsRising entries → IsMerging en
 merging_none entries new h = record {
   put = refl;
   rises = h;
-  below = each_with (λ _. Unit {0}) (λ later. AreBelow later.0 []) (λ _ _. tt) (drop 0 new) (every (drop 0 new));
+  below = each_with (λ _. Unit {0}) (λ later. AreBelow {V = Family} later.0 []) (λ _ _. tt) (drop 0 new) (every (drop 0 new));
   at_least = omega arith;
   at_most = omega arith;
   in_range = tt;
@@ -145,9 +152,11 @@ pub record IsPlacing (old : List Shared) (new : Entries) (pages left : List Shar
   pub in_range : AreBelow (2 ^ 32) (joined pages)
   pub left_in_range : AreBelow (2 ^ 32) (joined left)
   pub shorter : length rest ≤ length new
+  pub half_full : 2 ≤ length pages + length left → AreHalfFull pages × AreHalfFull left
+  pub some_left : 1 ≤ length rest → 1 ≤ length pages → 1 ≤ length left
 
-pub placing_none : (old : List Shared) (new : Entries) → ArePages old → IsRising (joined old) → AreBelow (2 ^ 32) (joined old) → IsRising new → IsPlacing old new [] old new
-placing_none old new are rises in_range new_rises = record {
+pub placing_none : (old : List Shared) (new : Entries) → ArePages old → AreFew old → IsRising (joined old) → AreBelow (2 ^ 32) (joined old) → IsRising new → IsPlacing old new [] old new
+placing_none old new are few rises in_range new_rises = record {
   put = refl;
   are_pages = tt;
   are_left = are;
@@ -156,10 +165,58 @@ placing_none old new are rises in_range new_rises = record {
   in_range = tt;
   left_in_range = in_range;
   shorter = omega arith;
+  half_full = λ many. (tt, few (omega arith));
+  some_left = λ _ some. absurd (omega arith);
 }
 
-pub placing_more : (old : List Shared) (new : Entries) (pages left : List Shared) (rest : Entries) (was : IsPlacing old new pages left rest) (below above : List Shared) (here mine later : Entries) (e : ℕ × Family) (others : Entries) → IsParted left e.0 below here above → rest ≡ e ∷ others → rest ≡ mine ++ later → Each (λ x. AreAbove x.0 (joined above)) mine → Each (λ x. Reaches above x.0) later → AreBelow (2 ^ 32) mine → (now : List Shared) → joined now ≡ (joined pages ++ joined below) ++ all_put here mine → ArePages now → IsPlacing old new now above later
-placing_more old new pages left rest was below above here mine later e others parted first cut low high mine_in_range now is are =
+-- one more page is as full as those before it, or the only one
+module _ (pages left below above now : List Shared) (here entries : Entries) (e : ℕ × Family) (parted : IsParted left e.0 below here above) (were : 2 ≤ length pages + length left → AreHalfFull pages × AreHalfFull left) (some_left : 1 ≤ length pages → 1 ≤ length left) (wider : length here ≤ length entries) (one : length entries ≤ 64 → length now ≡ length pages + length below + 1) (half : 32 ≤ length entries → AreHalfFull pages → AreHalfFull below → AreHalfFull now) where
+  -- none was left but the one that became more
+  some_more : 2 ≤ length now → length pages ≡ 0 → length below ≡ 0 → 32 ≤ length entries
+  some_more many none none_below =
+      elim (cases_lt (length entries) 32) [
+        | inl few ↦ absurd (let is : length now ≡ length pages + length below + 1 = one (omega arith) in omega arith)
+        | inr enough ↦ enough
+      ]
+
+  pages_left : 1 ≤ length pages → 2 ≤ length pages + length left
+  pages_left some = let left = some_left some in omega arith
+
+  left_of_two : 2 ≤ length pages + length left → 1 ≤ length left
+  left_of_two enough =
+      elim (cases_lt (length pages) 1) [
+        | inl none ↦ omega arith
+        | inr some ↦ some_left some
+      ]
+
+  only_one : length pages + length left < 2 → length pages ≡ 0
+  only_one few =
+      elim (cases_lt (length pages) 1) [
+        | inl none ↦ omega arith
+        | inr some ↦ absurd (let two = pages_left some in omega arith)
+      ]
+
+  pub still_half_full : 2 ≤ length now + length above → AreHalfFull now × AreHalfFull above
+  still_half_full many =
+      elim (cases_lt (length pages + length left) 2) [
+        | inl few ↦
+            let none : length pages ≡ 0 = only_one few in
+            let none_below : length below ≡ 0 = omega (arith, parted.others) in
+            let none_above : length above ≡ 0 = omega (arith, parted.others) in
+            let wide : 32 ≤ length entries = some_more (omega arith) none none_below in
+            (half wide (half_full_none pages none) (half_full_none below none_below), half_full_none above none_above)
+        | inr enough ↦
+            let all : AreHalfFull pages × AreHalfFull left = were enough in
+            let here_wide : 32 ≤ length here = parted.half_full all.1 (left_of_two enough) in
+            let wide : 32 ≤ length entries = omega (arith, here_wide, wider) in
+            (half wide all.0 (parted.before_half_full all.1), parted.after_half_full all.1)
+      ]
+
+pub placing_more : (old : List Shared) (new : Entries) (pages left : List Shared) (rest : Entries) (was : IsPlacing old new pages left rest) (below above : List Shared) (here mine later : Entries) (e : ℕ × Family) (others : Entries) → IsParted left e.0 below here above → rest ≡ e ∷ others → rest ≡ mine ++ later → Each (λ x. AreAbove x.0 (joined above)) mine → Each (λ x. Reaches above x.0) later → AreBelow (2 ^ 32) mine → (now : List Shared) → joined now ≡ (joined pages ++ joined below) ++ all_put here mine → ArePages now
+    → (length (all_put here mine) ≤ 64 → length now ≡ length pages + length below + 1) → (32 ≤ length (all_put here mine) → AreHalfFull pages → AreHalfFull below → AreHalfFull now)
+    → IsPlacing old new now above later
+placing_more old new pages left rest was below above here mine later e others parted first cut low high mine_in_range now is are one half =
+    let some : 1 ≤ length rest = omega (arith, ap length first) in
     let merged = page_merged left below above here rest mine later e others parted was.left_rises first was.rest_rises cut low high in
     let all_in_range : AreBelow (2 ^ 32) (joined below ++ (here ++ joined above)) = subst (AreBelow (2 ^ 32)) parted.whole was.left_in_range in
     let after_in_range = each_right (λ x. x.0 < 2 ^ 32) (joined below) (here ++ joined above) all_in_range in
@@ -177,7 +234,6 @@ placing_more old new pages left rest was below above here mine later e others pa
       in_range = rw is (each-append (λ x. x.0 < 2 ^ 32) (joined pages ++ joined below) (all_put here mine) front_in_range (each-all_put (λ tag. tag < 2 ^ 32) here mine (each_left (λ x. x.0 < 2 ^ 32) here (joined above) after_in_range) mine_in_range));
       left_in_range = each_right (λ x. x.0 < 2 ^ 32) here (joined above) after_in_range;
       shorter = omega (arith, was.shorter, ap length cut, length-append mine later);
+      half_full = still_half_full pages left below above now here (all_put here mine) e parted was.half_full (was.some_left some) (length-all_put here mine) one half;
+      some_left = λ more _. some_reaches above later high more;
     }
-
-pub placed_all : (old : List Shared) (new : Entries) (pages left : List Shared) → IsPlacing old new pages left [] → joined pages ++ joined left ≡ all_put (joined old) new
-placed_all old new pages left was = was.put

@@ -2,7 +2,8 @@
 use Rattle.std.proofs.Common.{◌≡◌, ℕ, List, [], ◌++◌, length, sym, ap, ◌∙◌}
 use Rattle.std.specs.Ordering.{nat_cmp}
 use Rattle.std.specs.FinMap.{find, get, len, empty, from_sorted, entries-from_sorted, get-from_sorted, len-entries, empty_of_len}
-use Rattle.native_state.specs.Pages.{IsParted, IsRising, IsTable, Shared, joined}
+use Rattle.native_state.specs.Pages.{IsParted, IsTable, Shared, joined}
+use Rattle.native_state.specs.Rising.{IsRising}
 use Rattle.native_state.proofs.Rising.{Entries, rising_sorted, find_after, find_before}
 
 pub len_of : (es : Entries) → IsRising es → len (from_sorted {R = nat_cmp} es) ≡ length es

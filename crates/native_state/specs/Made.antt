@@ -1,9 +1,6 @@
 -- Counts of what was made.
-use Rattle.std.specs.Prelude.{◌≡◌, ◌≤◌, ℕ, ◌+◌, ◌-◌, ◌^◌, max, min}
-
--- a count that rises by a number, and stands still at the last value that 64 bits hold
-abbrev pub raised : ℕ → ℕ → ℕ
-raised count by = max count (min (count + by) (2 ^ 64 - 1))
+use Rattle.std.specs.Prelude.{◌≡◌, ◌≤◌, ℕ, ◌+◌}
+use Rattle.counts.specs.Raised.{raised}
 
 -- the nodes, and the families in new pages
 pub record MadeCounts : Type 0 where

@@ -1,32 +1,11 @@
 -- Pages: how a map of families is kept.
-use Rattle.std.specs.Prelude.{◌≡◌, ℕ, ◌<◌, ◌≤◌, ◌^◌, List, [], ◌∷◌, ◌++◌, length}
+use Rattle.std.specs.Prelude.{◌≡◌, ℕ, ◌+◌, ◌-◌, ◌<◌, ◌≤◌, ◌^◌, List, [], ◌∷◌, ◌++◌, length}
 use Rattle.std.specs.FinMap.{put}
 use Rattle.std.specs.Ordering.{nat_cmp}
 use Rattle.std.specs.declared.sync.Arc.{Arc}
 use Rattle.std.specs.declared.alloc.Global.{Global}
 use Rattle.native_state.specs.declared.Family.{Family}
-
--- it holds of each element
-abbrev pub Each : {X : Type 0} → (X → Type 0) → List X → Type 0
-Each P [] = Unit {0}
-Each P (x ∷ xs) = P x × Each P xs
-
--- each tag is above that number
-abbrev pub AreAbove : ℕ → List (ℕ × Family) → Type 0
-AreAbove low = Each (λ entry. low < entry.0)
-
--- each tag is at least that number
-abbrev pub AreFrom : ℕ → List (ℕ × Family) → Type 0
-AreFrom low = Each (λ entry. low ≤ entry.0)
-
--- each tag is below that number
-abbrev pub AreBelow : ℕ → List (ℕ × Family) → Type 0
-AreBelow high = Each (λ entry. entry.0 < high)
-
--- the tags rise, so none stands twice
-abbrev pub IsRising : List (ℕ × Family) → Type 0
-IsRising [] = Unit {0}
-IsRising (entry ∷ entries) = AreAbove entry.0 entries × IsRising entries
+use Rattle.native_state.specs.Rising.{Each, AreAbove, AreBelow, IsRising}
 
 -- the list with each family of another put in its place, in their order
 abbrev pub all_put : List (ℕ × Family) → List (ℕ × Family) → List (ℕ × Family)
@@ -47,6 +26,14 @@ Shared = Arc (List (ℕ × Family)) Global
 abbrev pub ArePages : List Shared → Type 0
 ArePages = Each (λ page. IsPage page.value)
 
+-- each page holds 32 families or more
+abbrev pub AreHalfFull : List Shared → Type 0
+AreHalfFull = Each (λ page. 32 ≤ length page.value)
+
+-- pages are few for what they hold: where there are two or more, each is half full
+abbrev pub AreFew : List Shared → Type 0
+AreFew pages = 2 ≤ length pages → AreHalfFull pages
+
 -- the families of all pages, in their order
 abbrev pub joined : List Shared → List (ℕ × Family)
 joined [] = []
@@ -60,6 +47,7 @@ first_tag (entry ∷ entries) = entry.0
 -- a table's pages, all tags of one below those of the next, and how many families they hold
 pub record IsTable (pages : List Shared) (count : ℕ) : Type 0 where
   pub are_pages : ArePages pages
+  pub few : AreFew pages
   pub rises : IsRising (joined pages)
   pub in_range : AreBelow (2 ^ 32) (joined pages)
   pub counted : count ≡ length (joined pages)
@@ -72,6 +60,10 @@ pub record IsParted (pages : List Shared) (tag : ℕ) (before : List Shared) (he
   pub before_pages : ArePages before
   pub after_pages : ArePages after
   pub has_room : length here ≤ 64
+  pub others : length before + length after ≤ length pages - 1
+  pub before_half_full : AreHalfFull pages → AreHalfFull before
+  pub after_half_full : AreHalfFull pages → AreHalfFull after
+  pub half_full : AreHalfFull pages → 1 ≤ length pages → 32 ≤ length here
 
 -- the tag is above some tag of the pages, or the same: each number that is below all of theirs is below it
 abbrev pub Reaches : List Shared → ℕ → Type 0

@@ -1,7 +1,8 @@
 //! How much was made.
 
 ghost use Rattle.std.specs.Prelude.{◌≡◌};
-ghost use Rattle.native_state.specs.Made.{raised, nothing_made, one_node_more, families_more};
+ghost use Rattle.counts.specs.Raised.{raised};
+ghost use Rattle.native_state.specs.Made.{nothing_made, one_node_more, families_more};
 
 use std::marker::Model;
 use std::thread::Threads;

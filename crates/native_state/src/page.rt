@@ -4,8 +4,10 @@ ghost use Rattle.std.specs.Prelude.{◌≡◌, ℕ, ◌+◌, ◌*◌, ◌<◌, �
 ghost use Rattle.std.specs.FinMap.{find, put};
 ghost use Rattle.std.specs.Ordering.{nat_cmp};
 ghost use Rattle.native_state.specs.declared.Family.{Family as FamilyValue};
-ghost use Rattle.native_state.specs.Made.{families_more, raised, FamiliesWithin};
-ghost use Rattle.native_state.specs.Pages.{AreAbove, AreBelow, AreFrom, ArePages, Each, IsPage, IsParted, IsRising, Reaches, all_put, first_tag, joined};
+ghost use Rattle.counts.specs.Raised.{raised};
+ghost use Rattle.native_state.specs.Made.{families_more, FamiliesWithin};
+ghost use Rattle.native_state.specs.Pages.{AreFew, AreHalfFull, ArePages, IsPage, IsParted, Reaches, all_put, first_tag, joined};
+ghost use Rattle.native_state.specs.Rising.{AreAbove, AreBelow, AreFrom, Each, IsRising};
 
 use crate::Family;
 use crate::made::Made;
@@ -182,6 +184,8 @@ fn share_pages(all: &mut Vec<PageRef>, pages: &[PageRef]) -> Result<(), AllocErr
     requires pages { ArePages pages.now }
     ensures joined { OnOk result (joined all.new.items ≡ joined all.old.items ++ joined pages.now) }
     ensures pages { OnOk result (ArePages all.new.items) }
+    ensures count { OnOk result (length all.new.items ≡ length all.old.items + length pages.now) }
+    ensures half_full { OnOk result (AreHalfFull all.old.items → AreHalfFull pages.now → AreHalfFull all.new.items) }
 {
     for page in pages {
         all.push(Arc::try_clone(page)?)?;
@@ -200,6 +204,8 @@ fn push_page(
     requires page { IsPage entries.now }
     ensures joined { OnOk result (joined pages.new.items ≡ joined pages.old.items ++ entries.now) }
     ensures pages { OnOk result (ArePages pages.new.items) }
+    ensures count { OnOk result (length pages.new.items ≡ length pages.old.items + 1) }
+    ensures half_full { OnOk result (32 ≤ length entries.now → AreHalfFull pages.old.items → AreHalfFull pages.new.items) }
     ensures made { OnOk result (made.new ≡ families_more made.old (length entries.now)) }
     ensures within { FamiliesWithin made.old made.new (length entries.now) }
 {
@@ -220,6 +226,8 @@ fn push_parted(
     requires some { 1 ≤ length entries.now }
     ensures joined { OnOk result (joined pages.new.items ≡ joined pages.old.items ++ entries.now) }
     ensures pages { OnOk result (ArePages pages.new.items) }
+    ensures one { OnOk result (length entries.now ≤ 64 → length pages.new.items ≡ length pages.old.items + 1) }
+    ensures half_full { OnOk result (32 ≤ length entries.now → AreHalfFull pages.old.items → AreHalfFull pages.new.items) }
     ensures made { OnOk result (made.new ≡ families_more made.old (length entries.now)) }
     ensures within { FamiliesWithin made.old made.new (length entries.now) }
 {
@@ -236,18 +244,20 @@ fn push_parted(
 /// Pages with each family of a list in its place, both in the order of their tags.
 ///
 /// Each page that one of them belongs in is made anew once, and all others are shared.
-pub(crate) fn placed(
+pub(crate) fn pages_with(
     alloc: Global,
     made: &mut Made,
     kept: &[PageRef],
     new: &[(u32, Family)],
 ) -> Result<Vec<PageRef>, AllocError>
     requires pages { ArePages kept.now }
+    requires few { AreFew kept.now }
     requires rises { IsRising (joined kept.now) }
     requires in_range { AreBelow (2 ^ 32) (joined kept.now) }
     requires new { IsRising new.now }
     ensures joined { IfOk result (λ pages. joined pages.items ≡ all_put (joined kept.now) new.now) }
     ensures pages { IfOk result (λ pages. ArePages pages.items) }
+    ensures few { IfOk result (λ pages. AreFew pages.items) }
     ensures in_range { IfOk result (λ pages. AreBelow (2 ^ 32) (joined pages.items)) }
     ensures counted { OnOk result (raised made.old.families (length new.now) ≤ made.new.families) }
     ensures within { FamiliesWithin made.old made.new (65 * length new.now) }

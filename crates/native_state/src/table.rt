@@ -2,13 +2,14 @@
 
 ghost use Rattle.std.specs.Prelude.{◌≡◌, ◌+◌, ◌*◌, ◌≤◌, ◌^◌, length, IfOk, OnOk};
 ghost use Rattle.std.specs.FinMap as map;
-ghost use Rattle.native_state.specs.Families.{TagsDiffer, all_added};
-ghost use Rattle.native_state.specs.Made.{raised};
-ghost use Rattle.native_state.specs.Pages.{AreBelow, ArePages, IsRising, joined};
+ghost use Rattle.native_state.specs.Families.{TagsDiffer, all_added, cell_in};
+ghost use Rattle.counts.specs.Raised.{raised};
+ghost use Rattle.native_state.specs.Pages.{AreFew, ArePages, joined};
+ghost use Rattle.native_state.specs.Rising.{AreBelow, IsRising};
 
-use crate::Family;
 use crate::made::Made;
-use crate::page::{PageRef, count_of, family_of, parted, placed};
+use crate::page::{PageRef, count_of, family_of, pages_with, parted};
+use crate::{Family, StateCell};
 use std::alloc::{AllocError, Global};
 use std::marker::Model;
 use std::sync::Arc;
@@ -59,11 +60,30 @@ impl FamilyTable {
         family_of(here, tag)
     }
 
+    /// The cell of a tag's family; a tag without a family has one that never changed. It takes no
+    /// memory.
+    pub fn cell(&self, tag: u32) -> StateCell
+        ensures { result ≡ cell_in self.now tag }
+    {
+        match self.get(tag) {
+            Some(family) => family.cell,
+            None => StateCell::start(),
+        }
+    }
+
     /// How many families there are. It takes no memory.
     pub fn len(&self) -> usize
         ensures { result ≡ map.len self.now }
     {
         self.count
+    }
+
+    /// How many pages there are, of which each of two or more holds 32 to 64 families: at most 128
+    /// for 4,096 families. It takes no memory.
+    pub fn pages(&self) -> usize
+        ensures { 32 * result ≤ map.len self.now + 31 }
+    {
+        self.pages.len()
     }
 
     /// The same map, shared.
@@ -120,6 +140,7 @@ impl FamilyTable {
     /// The table of these pages.
     fn of(alloc: Global, pages: Vec<PageRef>) -> Result<FamilyTable, AllocError>
         requires pages { ArePages pages.items }
+        requires few { AreFew pages.items }
         requires rises { IsRising (joined pages.items) }
         requires in_range { AreBelow (2 ^ 32) (joined pages.items) }
         ensures { IfOk result (λ table. table ≡ map.from_sorted (joined pages.items)) }
@@ -147,7 +168,7 @@ impl FamilyTable {
         ensures at_most { made.new.families ≤ made.old.families + 65 * length new.now }
         ensures nodes { made.new.nodes ≡ made.old.nodes }
     {
-        let pages = placed(alloc, made, &self.pages, new)?;
+        let pages = pages_with(alloc, made, &self.pages, new)?;
         FamilyTable::of(alloc, pages)
     }
 }

@@ -119,6 +119,8 @@ fn a_full_page_is_parted(rt: HostRuntime) -> Result<(), Fail> {
     assert_eq!(rt; parted.len(), 65);
     assert_eq!(rt; full.len(), 64);
     assert_eq!(rt; made.families(), 2145);
+    assert_eq!(rt; full.pages(), 1);
+    assert_eq!(rt; parted.pages(), 2);
     assert!(rt; parted.get(100) == Some(family(2)));
     assert!(rt; full.get(100).is_none());
     for tag in [1, 2, 4, 95, 97, 98, 193, u32::MAX] {
@@ -151,7 +153,12 @@ fn one_change_among_the_most_families_copies_one_page(rt: HostRuntime) -> Result
     assert!(rt; made.families() > before);
     assert!(rt; made.families() - before <= 65);
     assert_eq!(rt; made.count(), 0);
+    assert!(rt; table.pages() <= 128);
+    assert_eq!(rt; after.pages(), table.pages());
     assert!(rt; after.get(6144) == Some(changed));
+    assert!(rt; after.cell(6144) == changed.cell);
+    assert!(rt; table.cell(6144) == StateCell::start());
+    assert!(rt; after.cell(6143) == StateCell::start());
     assert!(rt; table.get(6144) == Some(family(1)));
     assert!(rt; after.get(6143).is_none());
     assert_eq!(rt; after.len(), 4096);
@@ -183,5 +190,6 @@ fn a_list_is_added(rt: HostRuntime) -> Result<(), Fail> {
     assert_eq!(rt; shared.len(), 104);
     let none = FamilyTable::empty(rt.alloc())?.with_new(rt.alloc(), &mut made, &[])?;
     assert_eq!(rt; none.len(), 0);
+    assert_eq!(rt; none.pages(), 0);
     Ok(())
 }

@@ -1,31 +1,33 @@
 //! A shared text.
 
-ghost use Rattle.std.specs.Prelude.{◌≡◌, ◌≤◌, ◌<◌, [], length, IfOk, MatchResult};
+ghost use Rattle.std.specs.Prelude.{◌≡◌, ◌≤◌, ◌<◌, [], length, IsTrue, IfOk, MatchResult};
+ghost use Rattle.std.specs.Str.{is_utf8};
 ghost use Rattle.prop_table.specs.Refusal.{refuses};
+ghost use Rattle.prop_table.specs.Text.{IsLabelText};
 
 use std::alloc::{AllocError, Global};
 use std::marker::Model;
 use std::sync::Arc;
 
-/// A shared text of at most 256 bytes.
+/// A shared text of at most 256 bytes of UTF-8.
 #[derive(Drop)]
 pub struct Label {
     bytes: Option<Arc<Vec<u8>>>,
 }
 
 impl Model for Label {
-    ghost use Rattle.std.specs.Prelude.{List, ℕ, length, ◌≤◌};
+    ghost use Rattle.std.specs.Prelude.{List, ℕ};
     ghost use Rattle.std.specs.Coded.{coded_list, coded_ℕ};
 
     ghost Value = { List ℕ };
 
     ghost coded = { coded_list coded_ℕ };
 
-    ghost use Rattle.prop_table.specs.Text.{bytes_of};
+    ghost use Rattle.prop_table.specs.Text.{IsLabelText, bytes_of};
 
     ghost view = { bytes_of };
 
-    ghost invariant = { λ label. length (bytes_of label) ≤ 256 };
+    ghost invariant = { λ label. IsLabelText (bytes_of label) };
 }
 
 /// Why a text is no label.
@@ -37,9 +39,9 @@ pub enum LabelRefusal {
     Memory,
 }
 
-/// A label of a text of at most 256 bytes.
+/// A label of a text of at most 256 bytes of UTF-8.
 fn copied(alloc: Global, text: &[u8]) -> Result<Label, AllocError>
-    requires { length text.now ≤ 256 }
+    requires { IsLabelText text.now }
     ensures { IfOk result (λ label. label ≡ text.now) }
 {
     Ok(Label {
@@ -68,9 +70,11 @@ impl Label {
         }
     }
 
-    /// The text's bytes.
+    /// The text's bytes: at most 256, in UTF-8.
     pub fn bytes(&self) -> &[u8]
-        ensures { result.now ≡ self.now }
+        ensures bytes { result.now ≡ self.now }
+        ensures short { length self.now ≤ 256 }
+        ensures utf8 { IsTrue (is_utf8 self.now) }
     {
         match &self.bytes {
             Some(bytes) => bytes.as_slice(),

@@ -19,7 +19,7 @@ use Rattle.run_report.proofs.Begun.{passages_begun}
 use Rattle.run_report.proofs.Kept.{parts_of}
 use Rattle.run_engine.specs.declared.desks.Desk.{Desk}
 use Rattle.run_engine.specs.declared.actors.Actor.{Actor}
-use Rattle.run_engine.specs.Now.{records_of, surface_now, actor_now}
+use Rattle.run_engine.specs.Now.{desk_records, surface_now, actor_now}
 use Rattle.run_engine.specs.Event.{IsInOrder}
 use Rattle.run_engine.specs.Run.{AreInOrder}
 use Rattle.run_engine.specs.Ends.{AreOpened, IsBegun, AreBegun}
@@ -62,22 +62,22 @@ starts_in_order surfaces plans desks actors same opens begins = record {
       record {
         order = open_desk.0;
         mounts = ap (map plain_mount) open_desk.1
-            ∙ sym (ap (λ l. map (mount_along desk.size (records_of desk)) (passages_named desk.id l)) (parts_are actors)
-            ∙ ap (λ l. map (mount_along desk.size (records_of desk)) (passages_named desk.id (parts_of l))) begins.now
-            ∙ ap (map (mount_along desk.size (records_of desk))) (passages_begun desk.id plans));
+            ∙ sym (ap (λ l. map (mount_along desk.size (desk_records desk)) (passages_named desk.id l)) (parts_are actors)
+            ∙ ap (λ l. map (mount_along desk.size (desk_records desk)) (passages_named desk.id (parts_of l))) begins.now
+            ∙ ap (map (mount_along desk.size (desk_records desk))) (passages_begun desk.id plans));
       };
   holding = λ place desk number actor at to.
       let b : IsBegun number surfaces actor = begins.each number actor to in
       let s = some_of opened (slice_get surfaces place) (surface_now desk)
       (sym (slice_get-map opened surfaces place) ∙ ap (λ l. slice_get l place) (sym same) ∙ slice_get-map surface_now desks place ∙ ap (option_map surface_now) at) in
       let h = zip_at (λ (surface : PlainSurface) (revision : KeptRevision). StandsFor surface.size revision []) surfaces actor.held place s.0 b.held s.1 in
-      let none : records_of desk ≡ [] = sym (ap (λ (s : SurfaceNow). s.records) s.2) in
+      let none : desk_records desk ≡ [] = sym (ap (λ (s : SurfaceNow). s.records) s.2) in
       let zero_held : number_held desk.id actor.answers ≡ 0 = ap (number_held desk.id) b.answers in
       record {
         held = h.0;
         at = h.1;
         within = omega (arith, zero_held);
-        stands = subst (λ size. StandsFor size h.0 (take (number_held desk.id actor.answers) (records_of desk))) (ap (λ (s : SurfaceNow). s.first) s.2)
+        stands = subst (λ size. StandsFor size h.0 (take (number_held desk.id actor.answers) (desk_records desk))) (ap (λ (s : SurfaceNow). s.first) s.2)
             (subst (StandsFor s.0.size h.0) (λ i. take (sym zero_held i) (sym none i)) h.2);
         next = λ next e op l. absurd (none-some next (sym b.next ∙ e));
       };

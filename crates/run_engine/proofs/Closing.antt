@@ -20,7 +20,7 @@ use Rattle.run_report.specs.Mounts.{Passage, closed, last_to, mount_along}
 
 -- there is a closing mount
 pub closing_some : (first : Size) (records : List PlainRecord) (passages : List Passage) (old new : PlainCoordinator) (transaction : Transaction) (part : MountPart) (mounts all : List MountPart)
-    → IsTransaction first records old new transaction → last_to passages ≡ old.base.newest.number
+    → IsTransaction first records old new transaction → last_to passages ≡ old.base.number
     → plain_mount part ≡ record { base = transaction.base; to = transaction.to; by = None; mutations = map plain_mutation transaction.mutations }
     → map plain_mount mounts ≡ map (mount_along first records) passages → all ≡ mounts ++ part ∷ []
     → map plain_mount all ≡ map (mount_along first records) (closed records passages)
@@ -39,7 +39,7 @@ closing_some first records passages old new transaction part mounts all done las
 
 -- there is none
 pub closing_none : (first : Size) (records : List PlainRecord) (passages : List Passage) (old new : PlainCoordinator) (mounts : List MountPart)
-    → IsNothingNewer records old new → last_to passages ≡ old.base.newest.number → map plain_mount mounts ≡ map (mount_along first records) passages
+    → IsNothingNewer records old new → last_to passages ≡ old.base.number → map plain_mount mounts ≡ map (mount_along first records) passages
     → map plain_mount mounts ≡ map (mount_along first records) (closed records passages)
 closing_none first records passages old new mounts nothing last along =
     along ∙ ap (λ same. map (mount_along first records) (cond same passages (passages ++ record { base = last_to passages; to = mountable_of records; by = None } ∷ [])))

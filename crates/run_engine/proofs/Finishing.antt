@@ -19,7 +19,7 @@ use Rattle.run_report.proofs.Kept.{IsSurfaceKept}
 use Rattle.run_report.proofs.Lists.{slice_get_at}
 use Rattle.run_engine.specs.declared.desks.Desk.{Desk}
 use Rattle.run_engine.specs.declared.runs.Run.{Run}
-use Rattle.run_engine.specs.Now.{records_of, surface_now, actor_now}
+use Rattle.run_engine.specs.Now.{desk_records, surface_now, actor_now}
 use Rattle.run_engine.specs.Run.{HasCome}
 use Rattle.run_engine.specs.Ends.{part_along}
 use Rattle.run_engine.proofs.Turn.{kept_of}
@@ -39,7 +39,7 @@ module _ (run : Run) (come : HasCome run) (place : ℕ) (desk : Desk) (at : slic
 
   -- a surface's part of the journal is the machine's
   pub part_is : (part : SurfacePart)
-      → ((passages : List Passage) → last_to passages ≡ desk.coordinator.base.newest.number → map plain_mount desk.mounts ≡ map (mount_along desk.size (records_of desk)) passages
+      → ((passages : List Passage) → last_to passages ≡ desk.coordinator.base.number → map plain_mount desk.mounts ≡ map (mount_along desk.size (desk_records desk)) passages
       → plain_surface_part part ≡ part_along passages (surface_now desk))
       → plain_surface_part part ≡ surface_part_of (map actor_part_of (map actor_now run.actors.items)) (surface_now desk)
   part_is part told =
@@ -47,7 +47,7 @@ module _ (run : Run) (come : HasCome run) (place : ℕ) (desk : Desk) (at : slic
       all_there (IsSurfaceKept come.script (map actor_now run.actors.items)) (map surface_now run.desks.items) place (surface_now desk) (kept_of run come).kept
       (slice_get-map surface_now run.desks.items place ∙ ap (option_map surface_now) at) in
       told (passages_named desk.id (map actor_part_of (map actor_now run.actors.items))) kept.last
-      ((come.order.places place desk at).mounts ∙ ap (λ l. map (mount_along desk.size (records_of desk)) (passages_named desk.id l)) (parts_are run.actors.items))
+      ((come.order.places place desk at).mounts ∙ ap (λ l. map (mount_along desk.size (desk_records desk)) (passages_named desk.id l)) (parts_are run.actors.items))
 
   -- so are those of the surfaces so far
   pub parts_next : (before : List Desk) (sofar all : List SurfacePart) (part : SurfacePart)

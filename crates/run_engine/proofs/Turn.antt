@@ -7,7 +7,7 @@ use Rattle.tree_revision.specs.Script.{PlainAct, PlainStep}
 use Rattle.script_read.specs.Plain.{plain_act, plain_step}
 use Rattle.script_read.specs.declared.script.Step.{Step}
 use Rattle.run_report.specs.Machine.{ActorNow, after_event, after_turn, run_of, with_moment}
-use Rattle.run_report.specs.Shorthands.{turned}
+use Rattle.run_report.specs.Shorthands.{after_event_of}
 use Rattle.run_report.proofs.Kept.{IsRunOf}
 use Rattle.run_report.proofs.Begun.{run_begun}
 use Rattle.run_report.proofs.Runs.{turns_kept}
@@ -48,7 +48,7 @@ has_rested run come number actor at step left none new same =
     let now : ActorNow = actor_now actor in
     let at_now : slice_get (map actor_now run.actors.items) number ≡ Some now = slice_get-map actor_now run.actors.items number ∙ ap (option_map actor_now) at in
     subst (λ new. HasTurned run new number) (sym same) (record {
-      now = sym (ap (turned (run_now run) number) at_now
+      now = sym (ap (after_event_of (run_now run) number) at_now
           ∙ ap (λ found. unwrap_or (option_and_then (λ (step : PlainStep). option_map (λ surface. with_moment (run_now run) number (after_event number step.act surface now))
           (find (λ surface. nat_eq surface.id step.surface) (map surface_now run.desks.items))) found) (run_now run)) (left_at actor.steps (length actor.answers) step left)
           ∙ ap (λ found. unwrap_or (option_map (λ surface. with_moment (run_now run) number (after_event number (plain_act step.act) surface now)) found) (run_now run)) none);

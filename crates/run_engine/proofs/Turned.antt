@@ -24,7 +24,7 @@ use Rattle.run_report.specs.Mounts.{Passage, passage_of, mount_along, last_to}
 use Rattle.run_report.specs.declared.journal.StepName.{StepName}
 use Rattle.run_report.specs.Points.{number_held}
 use Rattle.run_report.specs.Machine.{actor_part_of, SurfaceNow, ActorNow, RunNow, Moment, moment, answered, after_commit, after_event, after_turn, with_moment, looked_with}
-use Rattle.run_report.specs.Shorthands.{passages_named, turned, turned_by, turned_on, trying, recorded, mounted_at, passage}
+use Rattle.run_report.specs.Shorthands.{passages_named, after_event_of, after_event_by, after_event_on, trying, recorded, mounted_at, passage}
 use Rattle.run_report.proofs.Lists.{slice_get-set_same, slice_get-set_other, all_unmap, all_found, all_true}
 use Rattle.run_report.proofs.Kept.{parts_of, IsRunOf, IsSurfaceKept}
 use Rattle.run_report.proofs.Runs.{same_ids, at_step, one_mounter, own_in_range}
@@ -33,8 +33,8 @@ use Rattle.run_report.proofs.Events.{mounted_passages}
 use Rattle.run_report.proofs.Passages.{passages_stay}
 use Rattle.run_engine.specs.declared.desks.Desk.{Desk}
 use Rattle.run_engine.specs.declared.actors.Actor.{Actor}
-use Rattle.run_engine.specs.Now.{records_of, surface_now, actor_now, now_of}
-use Rattle.run_engine.specs.Event.{entry_of, IsNext, IsHolding, StaysElsewhere, MayGoOn, passages_at, IsEventOn}
+use Rattle.run_engine.specs.Now.{desk_records, surface_now, actor_now, now_of}
+use Rattle.run_engine.specs.Event.{commit_record, IsNext, IsHolding, StaysElsewhere, MayGoOn, passages_at, IsEventOn}
 use Rattle.run_engine.specs.Run.{IsNumbered, IsDeskOf, AreInOrder}
 
 -- what stands at a place
@@ -234,9 +234,9 @@ module _ (script : PlainScript) (sound : IsSoundScript script) (desks : List Des
         set_by_id (map surface_now desks) place (surface_now desk) (surface_now desk') distinct surface_at event.id ∙ sym (map-set surface_now desks place desk') in
         (λ i. record { surfaces = sym surfaces i; actors = map-set actor_now actors number actor' i })
         ∙ ap (with_moment run number) moment_is
-        ∙ sym (ap (turned_on run number now step.act) found)
-        ∙ sym (ap (turned_by run number now) left_is)
-        ∙ sym (ap (turned run number) now_at)
+        ∙ sym (ap (after_event_on run number now step.act) found)
+        ∙ sym (ap (after_event_by run number now) left_is)
+        ∙ sym (ap (after_event_of run number) now_at)
 
     names : passages_named desk.id (parts_of (map actor_now (slice_set actors number actor')))
         ≡ passages_named desk.id (parts_of (map actor_now actors)) ++ passages_at actor.number step.act (surface_now desk) (actor_now actor)
@@ -250,18 +250,18 @@ module _ (script : PlainScript) (sound : IsSoundScript script) (desks : List Des
     here : IsDeskOf (slice_set actors number actor') desk'
     here =
         let passages : List Passage = passages_named desk.id (parts_of (map actor_now actors)) in
-        let within : last_to passages ≤ length (records_of desk) = omega (arith, surface_kept.last, surface_kept.base, mountable_of-within (records_of desk)) in
+        let within : last_to passages ≤ length (desk_records desk) = omega (arith, surface_kept.last, surface_kept.base, mountable_of-within (desk_records desk)) in
         let mine : List Passage = passages_at actor.number step.act (surface_now desk) (actor_now actor) in
         record {
           order = event.order;
           mounts = event.mounts
-              ∙ ap (λ l. l ++ map (mount_along desk'.size (records_of desk')) mine)
-              ((order.places place desk there).mounts ∙ ap (λ l. map (mount_along desk.size (records_of desk)) (passages_named desk.id l)) (parts_are actors)
-              ∙ sym (mounts-more desk.size (records_of desk) event.more 0 passages surface_kept.forward within)
+              ∙ ap (λ l. l ++ map (mount_along desk'.size (desk_records desk')) mine)
+              ((order.places place desk there).mounts ∙ ap (λ l. map (mount_along desk.size (desk_records desk)) (passages_named desk.id l)) (parts_are actors)
+              ∙ sym (mounts-more desk.size (desk_records desk) event.more 0 passages surface_kept.forward within)
               ∙ (λ i. map (mount_along (sym event.size i) (sym event.records i)) passages))
-              ∙ sym (map-append (mount_along desk'.size (records_of desk')) passages mine)
-              ∙ ap (map (mount_along desk'.size (records_of desk'))) (sym names)
-              ∙ (λ i. map (mount_along desk'.size (records_of desk')) (passages_named (sym event.id i) (sym (parts_are (slice_set actors number actor')) i)));
+              ∙ sym (map-append (mount_along desk'.size (desk_records desk')) passages mine)
+              ∙ ap (map (mount_along desk'.size (desk_records desk'))) (sym names)
+              ∙ (λ i. map (mount_along desk'.size (desk_records desk')) (passages_named (sym event.id i) (sym (parts_are (slice_set actors number actor')) i)));
         }
 
     off_id : (other : ℕ) (d : Desk) → (other ≡ place → ⊥) → slice_get desks other ≡ Some d → nat_eq desk.id d.id ≡ false
@@ -277,28 +277,28 @@ module _ (script : PlainScript) (sound : IsSoundScript script) (desks : List Des
         record {
           order = was.order;
           mounts = was.mounts
-              ∙ ap (λ l. map (mount_along d.size (records_of d)) (passages_named d.id l)) (parts_are actors)
-              ∙ ap (map (mount_along d.size (records_of d))) (sym same)
-              ∙ ap (λ l. map (mount_along d.size (records_of d)) (passages_named d.id l)) (sym (parts_are (slice_set actors number actor')));
+              ∙ ap (λ l. map (mount_along d.size (desk_records d)) (passages_named d.id l)) (parts_are actors)
+              ∙ ap (map (mount_along d.size (desk_records d))) (sym same)
+              ∙ ap (λ l. map (mount_along d.size (desk_records d)) (passages_named d.id l)) (sym (parts_are (slice_set actors number actor')));
         }
 
     -- another actor on the same surface
     other_holds : (a : Actor) → IsHolding place desk a → IsHolding place desk' a
     other_holds a h =
-        let same : (n : ℕ) → n ≤ length (records_of desk) → take n (records_of desk') ≡ take n (records_of desk) =
-        λ n w. ap (take n) event.records ∙ take-append-le n (records_of desk) event.more w in
+        let same : (n : ℕ) → n ≤ length (desk_records desk) → take n (desk_records desk') ≡ take n (desk_records desk) =
+        λ n w. ap (take n) event.records ∙ take-append-le n (desk_records desk) event.more w in
         record {
           held = h.held;
           at = h.at;
-          within = omega (arith, h.within, ap (λ id. number_held id a.answers) event.id, ap length event.records, length-append (records_of desk) event.more);
-          stands = subst (λ size. StandsFor size h.held (take (number_held desk'.id a.answers) (records_of desk'))) (sym event.size)
-              (subst (StandsFor desk.size h.held) (sym (ap (λ id. take (number_held id a.answers) (records_of desk')) event.id ∙ same (number_held desk.id a.answers) h.within)) h.stands);
+          within = omega (arith, h.within, ap (λ id. number_held id a.answers) event.id, ap length event.records, length-append (desk_records desk) event.more);
+          stands = subst (λ size. StandsFor size h.held (take (number_held desk'.id a.answers) (desk_records desk'))) (sym event.size)
+              (subst (StandsFor desk.size h.held) (sym (ap (λ id. take (number_held id a.answers) (desk_records desk')) event.id ∙ same (number_held desk.id a.answers) h.within)) h.stands);
           next = λ next e op l.
               let was : IsNext desk a op next = h.next next e op (l ∙ (λ i. Some (record { surface = event.id i; act = commit op }))) in
-              let low : next.newest.number - 1 ≤ length (records_of desk) =
-              omega (arith, was.newest.number, length-append (take (next.newest.number - 1) (records_of desk)) (entry_of desk.id op a ∷ []), length-take (next.newest.number - 1) (records_of desk)) in
-              subst (λ size. StandsFor size next (take (next.newest.number - 1) (records_of desk') ++ entry_of desk'.id op a ∷ [])) (sym event.size)
-              (subst (StandsFor desk.size next) (λ i. sym (same (next.newest.number - 1) low) i ++ entry_of (sym event.id i) op a ∷ []) was);
+              let low : next.newest.number - 1 ≤ length (desk_records desk) =
+              omega (arith, was.newest.number, length-append (take (next.newest.number - 1) (desk_records desk)) (commit_record desk.id op a ∷ []), length-take (next.newest.number - 1) (desk_records desk)) in
+              subst (λ size. StandsFor size next (take (next.newest.number - 1) (desk_records desk') ++ commit_record desk'.id op a ∷ [])) (sym event.size)
+              (subst (StandsFor desk.size next) (λ i. sym (same (next.newest.number - 1) low) i ++ commit_record (sym event.id i) op a ∷ []) was);
         }
 
     -- the actor on another surface
@@ -309,7 +309,7 @@ module _ (script : PlainScript) (sound : IsSoundScript script) (desks : List Des
           held = h.held;
           at = event.elsewhere other off ∙ h.at;
           within = omega (arith, stays.held, h.within);
-          stands = subst (λ n. StandsFor d.size h.held (take n (records_of d))) (sym stays.held) h.stands;
+          stands = subst (λ n. StandsFor d.size h.held (take n (desk_records d))) (sym stays.held) h.stands;
           next = λ next e op l.
               let same : slice_get (actor_now actor').left 0 ≡ Some step =
               (λ i. slice_get (drop (length (event.next next e i)) (map plain_step (event.steps i))) 0) ∙ left in

@@ -6,34 +6,34 @@ use Rattle.tree_revision.specs.InRange.{IsActInRange}
 use Rattle.tree_revision.specs.Mountable.{mountable_of}
 use Rattle.tree_revision.specs.Settled.{KeptRevision}
 use Rattle.tree_revision.specs.Stands.{StandsFor}
-use Rattle.mount_coordinator.specs.Mounted.{IsMountedIn}
+use Rattle.mount_coordinator.specs.Mounted.{IsBaseIn}
 use Rattle.run_report.specs.Journal.{plain_mount}
 use Rattle.run_report.specs.Points.{number_held}
 use Rattle.run_report.specs.Mounts.{Passage, passages_by, mount_along}
 use Rattle.run_report.specs.Machine.{SurfaceNow, ActorNow, moment, after_event}
 use Rattle.run_engine.specs.declared.desks.Desk.{Desk}
 use Rattle.run_engine.specs.declared.actors.Actor.{Actor}
-use Rattle.run_engine.specs.Now.{records_of, surface_now, actor_now}
+use Rattle.run_engine.specs.Now.{desk_records, surface_now, actor_now}
 
--- a surface is as its records say: its front stands for them, and as many of the first of them stand mounted as the base's number says
+-- a surface is as its records say: its front stands for them, and the base that stands mounted for the first of them
 pub record IsInOrder (desk : Desk) : Type 0 where
-  pub front : StandsFor desk.size desk.front (records_of desk)
-  pub mounted : IsMountedIn desk.size (records_of desk) desk.coordinator
+  pub front : StandsFor desk.size desk.front (desk_records desk)
+  pub mounted : IsBaseIn desk.size (desk_records desk) desk.coordinator.base
 
 -- what is recorded of a commit of an actor on the surface of that id
-abbrev pub entry_of : (id : ℕ) → PlainOp → Actor → PlainRecord
-entry_of id op actor = record { actor = actor.number; call = length actor.answers; held = number_held id actor.answers; op = op }
+abbrev pub commit_record : (id : ℕ) → PlainOp → Actor → PlainRecord
+commit_record id op actor = record { actor = actor.number; call = length actor.answers; held = number_held id actor.answers; op = op }
 
 -- the revision after a commit stands for the records that it looked at and its own
 abbrev pub IsNext : Desk → Actor → PlainOp → KeptRevision → Type 0
-IsNext desk actor op next = StandsFor desk.size next (take (next.newest.number - 1) (records_of desk) ++ entry_of desk.id op actor ∷ [])
+IsNext desk actor op next = StandsFor desk.size next (take (next.newest.number - 1) (desk_records desk) ++ commit_record desk.id op actor ∷ [])
 
 -- an actor holds a revision on the surface of that place, and a commit there that has looked has the revision after it
 pub record IsHolding (place : ℕ) (desk : Desk) (actor : Actor) : Type 0 where
   pub held : KeptRevision
   pub at : slice_get actor.held place ≡ Some held
-  pub within : number_held desk.id actor.answers ≤ length (records_of desk)
-  pub stands : StandsFor desk.size held (take (number_held desk.id actor.answers) (records_of desk))
+  pub within : number_held desk.id actor.answers ≤ length (desk_records desk)
+  pub stands : StandsFor desk.size held (take (number_held desk.id actor.answers) (desk_records desk))
   pub next : (next : KeptRevision) → actor.next ≡ Some next → (op : PlainOp)
       → slice_get (actor_now actor).left 0 ≡ Some (record { surface = desk.id; act = commit op }) → IsNext desk actor op next
 
@@ -63,11 +63,11 @@ pub record IsEventOn (place : ℕ) (act : PlainAct) (old new : Desk) (before aft
   pub order : IsInOrder new
   pub holding : IsHolding place new after
   pub mounts : map plain_mount new.mounts ≡ map plain_mount old.mounts
-      ++ map (mount_along new.size (records_of new)) (passages_at before.number act (surface_now old) (actor_now before))
+      ++ map (mount_along new.size (desk_records new)) (passages_at before.number act (surface_now old) (actor_now before))
   pub id : new.id ≡ old.id
   pub size : new.size ≡ old.size
   pub more : List PlainRecord
-  pub records : records_of new ≡ records_of old ++ more
+  pub records : desk_records new ≡ desk_records old ++ more
   pub elsewhere : (other : ℕ) → (other ≡ place → ⊥) → slice_get after.held other ≡ slice_get before.held other
   pub others : (other : ℕ) → nat_eq old.id other ≡ false → StaysElsewhere other before after
   pub next : (next : KeptRevision) → after.next ≡ Some next → after.answers ≡ before.answers

@@ -9,12 +9,12 @@ use Rattle.run_engine.specs.declared.actors.Actor.{Actor}
 use Rattle.run_engine.specs.declared.runs.Run.{Run}
 
 -- the admitted commits of a surface
-abbrev pub records_of : Desk → List PlainRecord
-records_of desk = map plain_record desk.records
+abbrev pub desk_records : Desk → List PlainRecord
+desk_records desk = map plain_record desk.records
 
 -- a surface: its base is the one that stands mounted
 abbrev pub surface_now : Desk → SurfaceNow
-surface_now desk = record { id = desk.id; first = desk.size; records = records_of desk; base = desk.coordinator.base.newest.number }
+surface_now desk = record { id = desk.id; first = desk.size; records = desk_records desk; base = desk.coordinator.base.number }
 
 -- an actor: it has the steps left that are not answered, and a commit that is to be offered looked at the number before that of the revision after it
 abbrev pub actor_now : Actor → ActorNow

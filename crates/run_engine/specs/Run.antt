@@ -11,7 +11,7 @@ use Rattle.std.specs.Prelude.{List}
 use Rattle.run_engine.specs.declared.desks.Desk.{Desk}
 use Rattle.run_engine.specs.declared.actors.Actor.{Actor}
 use Rattle.run_engine.specs.declared.runs.Run.{Run}
-use Rattle.run_engine.specs.Now.{records_of, actor_now, run_now}
+use Rattle.run_engine.specs.Now.{desk_records, actor_now, run_now}
 use Rattle.run_engine.specs.Event.{IsInOrder, IsHolding}
 
 -- an actor stands at its number, and each of its steps has a number
@@ -23,7 +23,7 @@ pub record IsNumbered (number : ℕ) (actor : Actor) : Type 0 where
 pub record IsDeskOf (actors : List Actor) (desk : Desk) : Type 0 where
   pub order : IsInOrder desk
   pub mounts : map plain_mount desk.mounts
-      ≡ map (mount_along desk.size (records_of desk)) (passages_named desk.id (map (λ actor. actor_part_of (actor_now actor)) actors))
+      ≡ map (mount_along desk.size (desk_records desk)) (passages_named desk.id (map (λ actor. actor_part_of (actor_now actor)) actors))
 
 -- surfaces and actors are in order, each actor with each surface
 pub record AreInOrder (desks : List Desk) (actors : List Actor) : Type 0 where

@@ -9,11 +9,11 @@ ghost use Rattle.run_report.specs.Mounts.{Passage, closed, last_to, mount_along}
 ghost use Rattle.shadow_frame.specs.declared.Size.{Size as SurfaceSize};
 ghost use Rattle.tree_revision.specs.Records.{PlainRecord};
 ghost use Rattle.tree_revision.specs.Stands.{StandsFor};
-ghost use Rattle.mount_coordinator.specs.Mounted.{IsMountedIn};
+ghost use Rattle.mount_coordinator.specs.Mounted.{IsBaseIn};
 ghost use Rattle.mount_coordinator.specs.Answers.{MayFinish};
 ghost use Rattle.run_engine.specs.Ends.{part_along};
 ghost use Rattle.run_engine.specs.Event.{IsInOrder};
-ghost use Rattle.run_engine.specs.Now.{records_of, surface_now};
+ghost use Rattle.run_engine.specs.Now.{desk_records, surface_now};
 
 use crate::parts::mount_part;
 use host_views::HostTree;
@@ -65,7 +65,7 @@ impl Desk {
     /// After the last event: the closing mount, and the last views.
     pub(crate) fn finish(self, alloc: Global) -> Result<SurfacePart, AllocError>
         requires { IsInOrder self }
-        ensures { IfOk result (λ part. (passages : List Passage) → last_to passages ≡ self.coordinator.base.newest.number → map plain_mount self.mounts ≡ map (mount_along self.size (records_of self)) passages → plain_surface_part part ≡ part_along passages (surface_now self)) }
+        ensures { IfOk result (λ part. (passages : List Passage) → last_to passages ≡ self.coordinator.base.number → map plain_mount self.mounts ≡ map (mount_along self.size (desk_records self)) passages → plain_surface_part part ≡ part_along passages (surface_now self)) }
     {
         let Desk {
             id,
@@ -95,7 +95,7 @@ fn with_closing(
     mut mounts: Items<MountPart>,
 ) -> Result<Items<MountPart>, AllocError>
     requires { MayFinish coordinator front }
-    ensures { IfOk result (λ all. (first : SurfaceSize) (records : List PlainRecord) (passages : List Passage) → StandsFor first front records → IsMountedIn first records coordinator → last_to passages ≡ coordinator.base.newest.number → map plain_mount mounts ≡ map (mount_along first records) passages → map plain_mount all ≡ map (mount_along first records) (closed records passages)) }
+    ensures { IfOk result (λ all. (first : SurfaceSize) (records : List PlainRecord) (passages : List Passage) → StandsFor first front records → IsBaseIn first records coordinator.base → last_to passages ≡ coordinator.base.number → map plain_mount mounts ≡ map (mount_along first records) passages → map plain_mount all ≡ map (mount_along first records) (closed records passages)) }
 {
     match coordinator.finish(alloc, front)? {
         None => Ok(mounts),

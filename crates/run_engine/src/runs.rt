@@ -61,7 +61,7 @@ impl Run {
         let Some(step) = self.actors[number].step() else {
             return Ok(());
         };
-        let Some(place) = place_of(&self.desks, step.surface) else {
+        let Some(place) = desk_place(&self.desks, step.surface) else {
             return Ok(());
         };
         let act = share_act(&step.act)?;
@@ -131,7 +131,7 @@ impl Run {
 }
 
 /// The place of the surface of that id.
-fn place_of(desks: &[Desk], id: u32) -> Option<usize>
+fn desk_place(desks: &[Desk], id: u32) -> Option<usize>
     ensures found { find (λ surface. nat_eq surface.id id) (map surface_now desks.now) ≡ option_and_then (λ place. option_map surface_now (slice_get desks.now place)) result }
     ensures within { IfSome result (λ place. place < length desks.now) }
 {

@@ -13,7 +13,7 @@ use Rattle.tree_revision.specs.declared.record.Cancel.{Cancel}
 use Rattle.tree_revision.specs.declared.record.Answer.TheVariants.{Admitted}
 use Rattle.run_report.specs.Points.{number_held}
 use Rattle.run_report.specs.Machine.{SurfaceNow, ActorNow, RunNow, Moment, answered, looked_with, after_commit, after_event, with_moment, after_turn, moment}
-use Rattle.run_report.specs.Shorthands.{later, trying, recorded, turned_on, turned_by, turned, after_turns}
+use Rattle.run_report.specs.Shorthands.{later, trying, recorded, after_event_on, after_event_by, after_event_of, after_turns}
 use Rattle.run_report.proofs.Lists.{nil_is_not_cons, slice_get-set_same, slice_get-set_other, all_weaker, all_found, map_leaves}
 use Rattle.run_report.proofs.Kept.{IsSurfaceKept, IsRunOf}
 use Rattle.run_report.proofs.Runs.{found_only, same_ids, own_surface, at_step, turn_kept, turns_kept}
@@ -118,8 +118,8 @@ module _ (script : PlainScript) (sound : IsSoundScript script) where
   pub turned_on_enough : (run : RunNow) → IsRunOf script run → (number turns : ℕ) (actor : ActorNow) (step : PlainStep) (rest : List PlainStep)
       → slice_get run.actors number ≡ Some actor → actor.left ≡ step ∷ rest → AreEnough (suc turns) run.surfaces actor
       → (found : Option SurfaceNow) → find (λ s. nat_eq s.id step.surface) run.surfaces ≡ found
-      → (after : ActorNow) → slice_get (turned_on run number actor step.act found).actors number ≡ Some after
-      → AreEnough turns (turned_on run number actor step.act found).surfaces after
+      → (after : ActorNow) → slice_get (after_event_on run number actor step.act found).actors number ≡ Some after
+      → AreEnough turns (after_event_on run number actor step.act found).surfaces after
   turned_on_enough run h number turns actor step rest at left enough None none after is =
       let own = at_step script sound run h number actor step rest at left in
       let there = own_surface script sound run h number own.0 actor step rest own.1 in
@@ -133,8 +133,8 @@ module _ (script : PlainScript) (sound : IsSoundScript script) where
   -- by an actor with these steps left
   pub turned_by_enough : (run : RunNow) → IsRunOf script run → (number turns : ℕ) (actor : ActorNow) (left : List PlainStep)
       → slice_get run.actors number ≡ Some actor → actor.left ≡ left → AreEnough (suc turns) run.surfaces actor
-      → (after : ActorNow) → slice_get (turned_by run number actor left).actors number ≡ Some after
-      → AreEnough turns (turned_by run number actor left).surfaces after
+      → (after : ActorNow) → slice_get (after_event_by run number actor left).actors number ≡ Some after
+      → AreEnough turns (after_event_by run number actor left).surfaces after
   turned_by_enough run h number turns actor [] at left enough after is =
       λ step rest now left' found. nil_is_not_cons after.left step rest (ap (λ a. a.left) (same_Some after actor (sym is ∙ at)) ∙ left) left'
   turned_by_enough run h number turns actor (step ∷ rest) at left enough after is =
@@ -143,7 +143,7 @@ module _ (script : PlainScript) (sound : IsSoundScript script) where
   -- by whatever stands at the number
   pub turned_enough : (run : RunNow) → IsRunOf script run → (number turns : ℕ) (o : Option ActorNow) → slice_get run.actors number ≡ o
       → ((actor : ActorNow) → slice_get run.actors number ≡ Some actor → AreEnough (suc turns) run.surfaces actor)
-      → (after : ActorNow) → slice_get (turned run number o).actors number ≡ Some after → AreEnough turns (turned run number o).surfaces after
+      → (after : ActorNow) → slice_get (after_event_of run number o).actors number ≡ Some after → AreEnough turns (after_event_of run number o).surfaces after
   turned_enough run h number turns None none enough after is = absurd (none-some after (sym none ∙ is))
   turned_enough run h number turns (Some actor) at enough after is = turned_by_enough run h number turns actor actor.left at refl (enough actor at) after is
 
@@ -178,15 +178,15 @@ module _ (script : PlainScript) (sound : IsSoundScript script) where
           ]
 
       by_surface : (actor : ActorNow) (step : PlainStep) (rest : List PlainStep) → slice_get run.actors number ≡ Some actor → actor.left ≡ step ∷ rest
-          → (found : Option SurfaceNow) → IsEnded (turned_on run number actor step.act found) j
+          → (found : Option SurfaceNow) → IsEnded (after_event_on run number actor step.act found) j
       by_surface actor step rest at left None = ended
       by_surface actor step rest at left (Some now) = by_moment actor step rest at left (after_event number step.act now actor).actor
 
-      by_left : (actor : ActorNow) (left : List PlainStep) → slice_get run.actors number ≡ Some actor → actor.left ≡ left → IsEnded (turned_by run number actor left) j
+      by_left : (actor : ActorNow) (left : List PlainStep) → slice_get run.actors number ≡ Some actor → actor.left ≡ left → IsEnded (after_event_by run number actor left) j
       by_left actor [] at left = ended
       by_left actor (step ∷ rest) at left = by_surface actor step rest at left (find (λ s. nat_eq s.id step.surface) run.surfaces)
 
-      by_actor : (o : Option ActorNow) → slice_get run.actors number ≡ o → IsEnded (turned run number o) j
+      by_actor : (o : Option ActorNow) → slice_get run.actors number ≡ o → IsEnded (after_event_of run number o) j
       by_actor None e = ended
       by_actor (Some actor) e = by_left actor actor.left e refl
 

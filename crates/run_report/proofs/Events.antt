@@ -24,7 +24,7 @@ use Rattle.run_report.specs.Machine.{SurfaceNow, ActorNow, actor_part_of, answer
 use Rattle.run_report.proofs.Lists.{item_within, slice_get-set_same, slice_get-set_other, slice_get_at, enumerate_from-push, all_append, all_weaker, one_passes}
 use Rattle.run_report.proofs.Pairs.{each_set}
 use Rattle.run_report.proofs.Looks.{is_more_self, is_more_push, is_more_take, number_mounted-push}
-use Rattle.run_report.proofs.Kept.{HasLooked, HasTried, IsActorOn, parts_of, IsOwnRecord, HasMounted, IsSurfaceKept}
+use Rattle.run_report.proofs.Kept.{HasLookedAt, HasTried, IsActorOn, parts_of, IsOwnRecord, HasMounted, IsSurfaceKept}
 use Rattle.run_report.proofs.Actors.{actor_on_more, actor_on_here}
 use Rattle.run_report.proofs.Passages.{follow_on_push, last_to-push, passages_by-push, no_passages_by, part_at, passages_lone, own_record_stays}
 use Rattle.run_report.proofs.Good.{good_held, look_mountable, good_empty, good_mounted, good_cancelled, good_admitted}
@@ -85,7 +85,7 @@ module _ (script : PlainScript) (actors : List ActorNow) (number : ℕ) (script_
 
   -- a commit that is admitted
   pub admitted_kept : (now : SurfaceNow) (op : PlainOp) → IsSurfaceKept script actors now → step.act ≡ commit op → step.surface ≡ now.id → IsOpInRange op
-      → HasLooked now.first now.id now.records actor step.act (length now.records)
+      → HasLookedAt now.first now.id now.records actor step.act (length now.records)
       → IsSurfaceKept script (slice_set actors number (answered now.id (Admitted (length now.records + 1) actor.tries) actor))
       (recorded (record { actor = number; call = length actor.answers; held = number_held now.id actor.answers; op = op }) now)
   admitted_kept now op h act on fits looked =

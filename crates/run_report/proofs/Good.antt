@@ -12,7 +12,7 @@ use Rattle.run_report.specs.Shorthands.{number_mounted}
 use Rattle.run_report.specs.Legal.{cancel_for_act, name_of, record_at}
 use Rattle.run_report.specs.Machine.{ActorNow}
 use Rattle.run_report.proofs.Looks.{IsMore, is_more_push, is_more_length, is_more_take, first_mountable-within, record_at-next, taken_step}
-use Rattle.run_report.proofs.Kept.{room_up_to, IsGoodStep, HasLooked, HasTried, IsActorOn}
+use Rattle.run_report.proofs.Kept.{room_up_to, IsGoodStep, HasLookedAt, HasTried, IsActorOn}
 
 -- an actor on a surface with these records, before the answer
 module _ (first : Size) (id : ℕ) (records : List PlainRecord) (number : ℕ) (steps : List PlainStep) (actor : ActorNow) (step : PlainStep)
@@ -79,7 +79,7 @@ module _ (first : Size) (id : ℕ) (records : List PlainRecord) (number : ℕ) (
 
   -- a commit that is admitted
   pub good_admitted : (entry : PlainRecord) → name_of entry ≡ (taken_step number actor.answers step (Held 0)).name
-      → HasLooked first id records actor step.act (length records)
+      → HasLookedAt first id records actor step.act (length records)
       → (entries : List PlainRecord) → IsMore (records ++ entry ∷ []) entries
       → IsGoodStep first id entries (taken_step number actor.answers step (Admitted (length records + 1) actor.tries))
   good_admitted entry name looked entries m =

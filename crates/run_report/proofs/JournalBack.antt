@@ -10,7 +10,7 @@ use Rattle.run_report.specs.Named.{IsByActor, NamesActors}
 use Rattle.run_report.specs.Text.{number_line, report_text}
 use Rattle.run_report.specs.TextParts.{transactions_text, last_text, all_mounts_text, histories_text, actors_text}
 use Rattle.run_report.specs.Ranges.{IsMountInRange, IsPartInRange}
-use Rattle.run_report.specs.Readable.{HasNames, IsToldBy}
+use Rattle.run_report.specs.Readable.{HasNames, IsReadable}
 use Rattle.run_report.proofs.LineWords.{after_same}
 use Rattle.run_report.proofs.ListsBack.{first}
 use Rattle.run_report.proofs.MountsBack.{begins_view, IsReadableMount, last_off, mounts_off}
@@ -87,7 +87,7 @@ journal_from : (a b : PlainJournal) → a.surfaces ≡ b.surfaces → a.actors �
 journal_from a b s t = λ i. record { surfaces = s i; actors = t i }
 
 -- journals that a report tells are one where their reports are
-pub journal_is : (script : PlainScript) (a b : PlainJournal) → HasNames script → IsToldBy script a → IsToldBy script b → report_text a ≡ report_text b → a ≡ b
+pub journal_is : (script : PlainScript) (a b : PlainJournal) → HasNames script → IsReadable script a → IsReadable script b → report_text a ≡ report_text b → a ≡ b
 journal_is script a b script_names p q e =
     let names : List (List ℕ) = names_of script.actors in
     let ids : map (λ (part : PlainSurfacePart). part.id) a.surfaces ≡ map (λ (part : PlainSurfacePart). part.id) b.surfaces = p.form.surfaces ∙ sym q.form.surfaces in

@@ -12,7 +12,7 @@ use Rattle.run_report.specs.Journal.{PlainActorPart, PlainJournal}
 use Rattle.run_report.specs.Points.{point_before, number_held}
 use Rattle.run_report.specs.Shorthands.{number_mounted, passages_named}
 use Rattle.run_report.specs.Mounts.{last_to}
-use Rattle.run_report.specs.Legal.{Answers, TakenStep, taken_after, IsOfItsStep, HasItsRecord, cancel_for_act, HasCause, LooksForward, IsTrulyHeld, FollowOn, IsEmptyAt, TriesHaveRoom}
+use Rattle.run_report.specs.Legal.{Answers, TakenStep, taken_after, IsOfItsStep, HasItsRecord, cancel_for_act, HasCause, LooksForward, IsTrulyHeld, FollowOn, IsEmptyAt, HasRoomForTries}
 use Rattle.run_report.specs.Machine.{SurfaceNow, ActorNow, RunNow, actor_part_of}
 use Rattle.run_report.proofs.Pairs.{Each}
 use Rattle.run_report.proofs.Looks.{IsMore}
@@ -29,10 +29,10 @@ pub record IsGoodStep (first : Size) (id : ℕ) (entries : List PlainRecord) (ta
   pub cause : HasCause first id entries taken taken.answer
   pub looks : LooksForward id entries taken
   pub empty : IsEmptyAt id taken taken.answer
-  pub room : TriesHaveRoom first id entries taken taken.answer
+  pub room : HasRoomForTries first id entries taken taken.answer
 
 -- a commit that has looked at that number was tried, each time at a number of its own that had no cause, and looked at one that has none
-pub record HasLooked (first : Size) (id : ℕ) (records : List PlainRecord) (actor : ActorNow) (act : PlainAct) (at : ℕ) : Type 0 where
+pub record HasLookedAt (first : Size) (id : ℕ) (records : List PlainRecord) (actor : ActorNow) (act : PlainAct) (at : ℕ) : Type 0 where
   pub tried : 1 ≤ actor.tries
   pub within : at ≤ length records
   pub after : (entries : List PlainRecord) → IsMore records entries → point_before id entries actor.answers ≤ at
@@ -43,7 +43,7 @@ pub record HasLooked (first : Size) (id : ℕ) (records : List PlainRecord) (act
 abbrev pub HasTried : Size → (id : ℕ) → List PlainRecord → ActorNow → PlainAct → Option ℕ → Type 0
 HasTried first id records actor act None =
     (entries : List PlainRecord) → IsMore records entries → actor.tries ≤ room_up_to first id entries actor.answers act (length records)
-HasTried first id records actor act (Some at) = HasLooked first id records actor act at
+HasTried first id records actor act (Some at) = HasLookedAt first id records actor act at
 
 -- the step that an actor is at, where it is on that surface
 abbrev pub IsUnderWay : Size → (id : ℕ) → List PlainRecord → ActorNow → List PlainStep → Type 0

@@ -6,7 +6,7 @@ use Rattle.tree_revision.specs.Script.{PlainActor, PlainScript}
 use Rattle.tree_revision.specs.Mountable.{mountable_of}
 use Rattle.run_report.specs.Mounts.{passages_on, last_to}
 use Rattle.run_report.specs.Shorthands.{passages_named}
-use Rattle.run_report.specs.Legal.{Answers, HasFormOf, TakenStep, taken_after, taken_from, taken_on, IsOfItsStep, HasItsRecord, HasCause, LooksForward, IsTrulyHeld, FollowOn, IsEmptyAt, TriesHaveRoom, IsLegalOn, IsLegal}
+use Rattle.run_report.specs.Legal.{Answers, HasFormOf, TakenStep, taken_after, taken_from, taken_on, IsOfItsStep, HasItsRecord, HasCause, LooksForward, IsTrulyHeld, FollowOn, IsEmptyAt, HasRoomForTries, IsLegalOn, IsLegal}
 use Rattle.run_report.specs.Machine.{SurfaceNow, ActorNow, RunNow, actor_part_of, surface_part_of, journal_at_end}
 use Rattle.run_report.proofs.Lists.{all_numbered, all_true, all_append, all_weaker, all_kept}
 use Rattle.run_report.proofs.Pairs.{all_zip_each, all_zip_become, same_maps}
@@ -61,7 +61,7 @@ module _ (script : PlainScript) (run : RunNow) (h : IsRunOf script run) where
           forward = subst (FollowOn 0) (sym along) follow;
           empty = all_weaker (IsGoodStep now.first now.id now.records) (λ taken. IsEmptyAt now.id taken taken.answer) (λ taken g. g.empty) steps good;
         };
-        tries_have_room = all_weaker (IsGoodStep now.first now.id now.records) (λ taken. TriesHaveRoom now.first now.id now.records taken taken.answer) (λ taken g. g.room) steps good;
+        tries_have_room = all_weaker (IsGoodStep now.first now.id now.records) (λ taken. HasRoomForTries now.first now.id now.records taken taken.answer) (λ taken g. g.room) steps good;
         views_follow = record {
           mounts = mounts_follow now.first now.records k.lawful 0 (passages_on now.id now.records (parts_of run.actors)) (registry_of []) follow (nothing_shown now.first now.records k.lawful);
           last = refl;

@@ -19,7 +19,7 @@ use Rattle.run_report.specs.Mounts.{Passage, passage_of, passages_by, passages_o
 use Rattle.run_report.specs.Shorthands.{passage, passage_on, passages_named}
 use Rattle.run_report.specs.Legal.{Answers, IsOfItsStep, CommitsStandOnce, IsLegalOn, IsLegal}
 use Rattle.run_report.specs.Ranges.{IsInRange}
-use Rattle.run_report.specs.Readable.{HasNames, IsToldBy}
+use Rattle.run_report.specs.Readable.{HasNames, IsReadable}
 
 -- a passage is closing, or by an actor whose number is below the count
 abbrev IsPassageBy : ℕ → Passage → Type 0
@@ -111,7 +111,7 @@ legal_names script journal legal =
     (λ surface part p. part_names script journal surface.size part same p) legal.surfaces)
 
 -- a sound script has names, and a legal journal of it in range is told by its report
-pub legal_told : (script : PlainScript) (journal : PlainJournal) → IsSoundScript script → IsLegal script journal → IsInRange journal → HasNames script × IsToldBy script journal
+pub legal_told : (script : PlainScript) (journal : PlainJournal) → IsSoundScript script → IsLegal script journal → IsInRange journal → HasNames script × IsReadable script journal
 legal_told script journal sound legal ranges = (
   record { names = recursion_from_All (λ name. IsTrue (is_name name)) (names_of script.actors) sound.names; differ = sound.names_differ },
   record {

@@ -9,7 +9,7 @@ use Rattle.tree_revision.specs.Script.{PlainStep, PlainActor, PlainSurface, Plai
 use Rattle.tree_revision.specs.InRange.{IsStepInRange}
 use Rattle.tree_revision.specs.Sound.{ids_of, mounts_on, HasOneMounter, IsSoundScript}
 use Rattle.run_report.specs.Machine.{SurfaceNow, ActorNow, RunNow, Moment, after_event, with_moment, after_turn}
-use Rattle.run_report.specs.Shorthands.{turned_on, turned_by, turned, after_turns}
+use Rattle.run_report.specs.Shorthands.{after_event_on, after_event_by, after_event_of, after_turns}
 use Rattle.run_report.proofs.Lists.{item_within, all_at, all_unmap, slice_get_at, all_weaker, all_map, all_found}
 use Rattle.run_report.proofs.Pairs.{each_set, all_zip_become}
 use Rattle.run_report.proofs.Kept.{IsSurfaceKept, IsActorOf, IsSurfaceOf, IsRunOf}
@@ -127,30 +127,30 @@ module _ (script : PlainScript) (sound : IsSoundScript script) where
       (own.0, record { script_at = own.1; at = at; count = h.count; shape = h.actors; left = left })
 
   -- an event on what was found keeps the run
-  pub turned_on_kept : (run : RunNow) → IsRunOf script run → (number : ℕ) (actor : ActorNow) (step : PlainStep) (rest : List PlainStep)
+  pub after_event_on-kept : (run : RunNow) → IsRunOf script run → (number : ℕ) (actor : ActorNow) (step : PlainStep) (rest : List PlainStep)
       → slice_get run.actors number ≡ Some actor → actor.left ≡ step ∷ rest
-      → (found : Option SurfaceNow) → find (λ s. nat_eq s.id step.surface) run.surfaces ≡ found → IsRunOf script (turned_on run number actor step.act found)
-  turned_on_kept run h number actor step rest at left None e = h
-  turned_on_kept run h number actor step rest at left (Some now) e =
+      → (found : Option SurfaceNow) → find (λ s. nat_eq s.id step.surface) run.surfaces ≡ found → IsRunOf script (after_event_on run number actor step.act found)
+  after_event_on-kept run h number actor step rest at left None e = h
+  after_event_on-kept run h number actor step rest at left (Some now) e =
       let own = at_step run h number actor step rest at left in
       moment_kept run h number own.0 actor step rest own.1 now e (after_event number step.act now actor)
       (event_kept run h number own.0 actor step rest own.1 now e)
 
   -- so by an actor with these steps left
-  pub turned_by_kept : (run : RunNow) → IsRunOf script run → (number : ℕ) (actor : ActorNow) (left : List PlainStep)
-      → slice_get run.actors number ≡ Some actor → actor.left ≡ left → IsRunOf script (turned_by run number actor left)
-  turned_by_kept run h number actor [] at e = h
-  turned_by_kept run h number actor (step ∷ rest) at e =
-      turned_on_kept run h number actor step rest at e (find (λ s. nat_eq s.id step.surface) run.surfaces) refl
+  pub after_event_by-kept : (run : RunNow) → IsRunOf script run → (number : ℕ) (actor : ActorNow) (left : List PlainStep)
+      → slice_get run.actors number ≡ Some actor → actor.left ≡ left → IsRunOf script (after_event_by run number actor left)
+  after_event_by-kept run h number actor [] at e = h
+  after_event_by-kept run h number actor (step ∷ rest) at e =
+      after_event_on-kept run h number actor step rest at e (find (λ s. nat_eq s.id step.surface) run.surfaces) refl
 
   -- and by whatever stands at the number
-  pub turned_kept : (run : RunNow) → IsRunOf script run → (number : ℕ) (actor : Option ActorNow) → slice_get run.actors number ≡ actor → IsRunOf script (turned run number actor)
-  turned_kept run h number None e = h
-  turned_kept run h number (Some actor) e = turned_by_kept run h number actor actor.left e refl
+  pub after_event_of-kept : (run : RunNow) → IsRunOf script run → (number : ℕ) (actor : Option ActorNow) → slice_get run.actors number ≡ actor → IsRunOf script (after_event_of run number actor)
+  after_event_of-kept run h number None e = h
+  after_event_of-kept run h number (Some actor) e = after_event_by-kept run h number actor actor.left e refl
 
   -- a turn keeps what a run keeps
   pub turn_kept : (run : RunNow) → IsRunOf script run → (number : ℕ) → IsRunOf script (after_turn run number)
-  turn_kept run h number = turned_kept run h number (slice_get run.actors number) refl
+  turn_kept run h number = after_event_of-kept run h number (slice_get run.actors number) refl
 
   -- so do more turns
   pub turns_kept : (run : RunNow) → IsRunOf script run → (turns : List ℕ) → IsRunOf script (after_turns run turns)

@@ -13,7 +13,7 @@ use Rattle.shadow_node.specs.Shown.{descendants, is_shown}
 use Rattle.view_flatten.specs.HostTree.{host_tree_of}
 use Rattle.view_flatten.proofs.Shorthands.{has_view}
 use Rattle.view_flatten.specs.Places.{HasItsPlace}
-use Rattle.view_flatten.proofs.Places.{each_viewed_has_place}
+use Rattle.view_flatten.proofs.Viewed.{each_viewed_has_place}
 
 -- what holds of the elements that pass a test holds of each one that passes it
 kept_first : {X : Type 0} (P : X → Type 0) (b : Bool) (x : X) (xs : List X) → AllByRecursion P (if b then x ∷ xs else xs)

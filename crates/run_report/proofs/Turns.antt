@@ -19,7 +19,7 @@ use Rattle.run_report.specs.Machine.{SurfaceNow, ActorNow, Moment, answered, loo
 use Rattle.run_report.specs.Shorthands.{trying, recorded, mounted_at}
 use Rattle.run_report.proofs.Lists.{count_one_more}
 use Rattle.run_report.proofs.Looks.{is_more_take}
-use Rattle.run_report.proofs.Kept.{room_up_to, HasLooked, HasTried, IsUnderWay, IsSurfaceKept, IsActorOf}
+use Rattle.run_report.proofs.Kept.{room_up_to, HasLookedAt, HasTried, IsUnderWay, IsSurfaceKept, IsActorOf}
 use Rattle.run_report.proofs.Actors.{room_grows, actor_of_answered, actor_of_trying}
 use Rattle.run_report.proofs.Surfaces.{IsAtStep, own_actor, trying_kept, elsewhere_kept}
 use Rattle.run_report.proofs.Events.{own_on, hold_kept, empty_kept, cancelled_kept, admitted_kept, mounted_kept}
@@ -105,8 +105,8 @@ module _ (script : PlainScript) (actors : List ActorNow) (number : ℕ) (script_
       (answered now.id (Admitted (length now.records + 1) actor.tries) actor)
       else moment now (trying actor.tries None actor))
   offer_by op at true act fits looked e =
-      let tried : HasLooked now.first now.id now.records actor step.act (length now.records) =
-      subst (HasLooked now.first now.id now.records actor step.act) (eqb-true at (length now.records) e) (tried_so_far (Some at) looked) in
+      let tried : HasLookedAt now.first now.id now.records actor step.act (length now.records) =
+      subst (HasLookedAt now.first now.id now.records actor step.act) (eqb-true at (length now.records) e) (tried_so_far (Some at) looked) in
       answer_kept (Admitted (length now.records + 1) actor.tries) (recorded (record { actor = number; call = length actor.answers; held = number_held now.id actor.answers; op = op }) now)
       refl refl (subst (λ a. IsAnswerTo a (Admitted (length now.records + 1) actor.tries)) (sym act) tt)
       (admitted_kept script actors number script_actor actor step rest t now op h act on (subst IsActInRange act fits) tried)

@@ -130,10 +130,10 @@ room_for_tries first id entries taken =
     (range_with_len before (look_point entries before taken.answer - before))
 
 -- a commit was tried once at least, and each earlier try has a number of its own at which it had no cause
-abbrev pub TriesHaveRoom : Size → (id : ℕ) → List PlainRecord → TakenStep → Answer → Type 0
-TriesHaveRoom first id entries taken (Admitted number tries) = (1 ≤ tries) × (tries ≤ room_for_tries first id entries taken + 1)
-TriesHaveRoom first id entries taken (Cancelled at tries cause) = (1 ≤ tries) × (tries ≤ room_for_tries first id entries taken + 1)
-TriesHaveRoom first id entries taken _ = Unit {0}
+abbrev pub HasRoomForTries : Size → (id : ℕ) → List PlainRecord → TakenStep → Answer → Type 0
+HasRoomForTries first id entries taken (Admitted number tries) = (1 ≤ tries) × (tries ≤ room_for_tries first id entries taken + 1)
+HasRoomForTries first id entries taken (Cancelled at tries cause) = (1 ≤ tries) × (tries ≤ room_for_tries first id entries taken + 1)
+HasRoomForTries first id entries taken _ = Unit {0}
 
 -- a mount on these host views: its mutations are those between the two host trees, each may be applied in its turn, and then the views are the tree that it leads to
 pub record IsMountOn (first : Size) (entries : List PlainRecord) (views : PlainRegistry) (done : PlainMount) : Type 0 where
@@ -159,7 +159,7 @@ pub record IsLegalOn (script : PlainScript) (journal : PlainJournal) (first : Si
   pub looks_go_forward : AllByRecursion (LooksForward part.id part.records) (taken_on script journal part.id)
   pub held_is_true : AllByRecursion (IsTrulyHeld journal part.id) part.records
   pub mounts_follow_on : MountsFollowOn script journal part
-  pub tries_have_room : AllByRecursion (λ taken. TriesHaveRoom first part.id part.records taken taken.answer) (taken_on script journal part.id)
+  pub tries_have_room : AllByRecursion (λ taken. HasRoomForTries first part.id part.records taken taken.answer) (taken_on script journal part.id)
   pub views_follow : ViewsFollow first part
 
 -- a journal is legal for a script: it has the script's form, and each surface keeps what is promised

@@ -14,7 +14,7 @@ pub record HasNames (script : PlainScript) : Type 0 where
   pub differ : IsDistinct bytes_eq (names_of script.actors)
 
 -- a journal of a script whose report tells it: it has the script's form, each admitted commit stands once, each actor that it names is its own, and its numbers and the props of its views are in range
-pub record IsToldBy (script : PlainScript) (journal : PlainJournal) : Type 0 where
+pub record IsReadable (script : PlainScript) (journal : PlainJournal) : Type 0 where
   pub form : HasFormOf script journal
   pub commits : AllByRecursion (λ part. CommitsStandOnce script journal part.id part.records) journal.surfaces
   pub names : NamesItsActors journal

@@ -27,18 +27,18 @@ abbrev pub mounted_at : ℕ → SurfaceNow → SurfaceNow
 mounted_at number surface = record surface { base = number }
 
 -- an event on the surface that was found
-abbrev pub turned_on : RunNow → (number : ℕ) → ActorNow → PlainAct → Option SurfaceNow → RunNow
-turned_on run number actor act found = unwrap_or (option_map (λ surface. with_moment run number (after_event number act surface actor)) found) run
+abbrev pub after_event_on : RunNow → (number : ℕ) → ActorNow → PlainAct → Option SurfaceNow → RunNow
+after_event_on run number actor act found = unwrap_or (option_map (λ surface. with_moment run number (after_event number act surface actor)) found) run
 
 -- an event of an actor with these steps left
-abbrev pub turned_by : RunNow → (number : ℕ) → ActorNow → List PlainStep → RunNow
-turned_by run number actor left =
+abbrev pub after_event_by : RunNow → (number : ℕ) → ActorNow → List PlainStep → RunNow
+after_event_by run number actor left =
     unwrap_or (option_and_then (λ step. option_map (λ surface. with_moment run number (after_event number step.act surface actor))
     (find (λ surface. nat_eq surface.id step.surface) run.surfaces)) (slice_get left 0)) run
 
 -- an event of the actor that was found
-abbrev pub turned : RunNow → (number : ℕ) → Option ActorNow → RunNow
-turned run number found =
+abbrev pub after_event_of : RunNow → (number : ℕ) → Option ActorNow → RunNow
+after_event_of run number found =
     unwrap_or (option_and_then (λ actor. option_and_then (λ step. option_map (λ surface. with_moment run number (after_event number step.act surface actor))
     (find (λ surface. nat_eq surface.id step.surface) run.surfaces)) (slice_get actor.left 0)) found) run
 

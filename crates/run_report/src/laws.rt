@@ -8,13 +8,13 @@ ghost use Rattle.run_report.specs.Text.{report_text};
 ghost use Rattle.run_report.specs.Machine.{journal_of_turns};
 ghost use Rattle.run_report.specs.Legal.{IsLegal};
 ghost use Rattle.run_report.specs.Ranges.{IsInRange};
-ghost use Rattle.run_report.specs.Readable.{HasNames, IsToldBy};
+ghost use Rattle.run_report.specs.Readable.{HasNames, IsReadable};
 
 /// For every script whose actors have names of their own: two journals of it that have its form, in which each
 /// admitted commit stands once, each actor named is one, and numbers and props are in range, are one journal
 /// where they have the same report.
 pub fn reports_tell_their_journals()
-    ensures { (script : PlainScript) (a b : PlainJournal) → HasNames script → IsToldBy script a → IsToldBy script b
+    ensures { (script : PlainScript) (a b : PlainJournal) → HasNames script → IsReadable script a → IsReadable script b
         → report_text a ≡ report_text b → a ≡ b }
 {}
 

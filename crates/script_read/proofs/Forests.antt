@@ -18,22 +18,22 @@ use Rattle.tree_build.specs.declared.ScriptNode.TheOpen as open_form
 use Rattle.tree_build.specs.declared.ScriptNode.TheViews as view_form
 use Rattle.tree_build.specs.declared.ScriptNode.TheVariants.{rolls-Written, rolls-Kept}
 use Rattle.tree_build.specs.Script.{ScriptForest, no_more, written, chained, in_front, script_layer, script_forest}
-use Rattle.script_read.specs.Members.{listed, items_in}
-use Rattle.script_read.specs.Value.{kept_before, node_before, nodes_of, nodes_in, children_of, children_in}
+use Rattle.script_read.specs.Members.{item_list, items_in}
+use Rattle.script_read.specs.Value.{kept_before, node_before, nodes_from, nodes_in, children_from, children_among}
 use Rattle.script_read.proofs.Lists.{left_of}
 
-children_read : (two : Bool) (ms : Members) → children_in two ms ≡ option_map (nodes_of two) (get_member (codes "children") ms)
+children_read : (two : Bool) (ms : Members) → children_among two ms ≡ option_map (nodes_from two) (get_member (codes "children") ms)
 children_read two no_members = refl
 children_read two (member name value ms) =
-    elim (slice_cmp nat_cmp (codes "children") name) as (λ o. match_ordering o (children_in two ms) (Some (nodes_of two value)) (children_in two ms)
-    ≡ option_map (nodes_of two) (match_ordering o (get_member (codes "children") ms) (Some value) (get_member (codes "children") ms))) [
+    elim (slice_cmp nat_cmp (codes "children") name) as (λ o. match_ordering o (children_among two ms) (Some (nodes_from two value)) (children_among two ms)
+    ≡ option_map (nodes_from two) (match_ordering o (get_member (codes "children") ms) (Some value) (get_member (codes "children") ms))) [
       | Less ↦ children_read two ms
       | Equal ↦ refl
       | Greater ↦ children_read two ms
     ]
 
 -- the children of a node are those of its member
-pub children_are : (two : Bool) (v : Data) → children_of two v ≡ option_map (nodes_of two) (get (codes "children") v)
+pub children_are : (two : Bool) (v : Data) → children_from two v ≡ option_map (nodes_from two) (get (codes "children") v)
 children_are two null = refl
 children_are two (boolean b) = refl
 children_are two (number n) = refl
@@ -44,14 +44,14 @@ children_are two (object ms) = children_read two ms
 -- the forest of some nodes
 abbrev pub forest_of : (two : Bool) → List Data → ScriptForest
 forest_of two [] = no_more
-forest_of two (node ∷ nodes) = node_before two node (children_of two node) (forest_of two nodes)
+forest_of two (node ∷ nodes) = node_before two node (children_from two node) (forest_of two nodes)
 
-nodes_listed : (two : Bool) (ds : Items) → nodes_in two ds ≡ forest_of two (listed ds)
+nodes_listed : (two : Bool) (ds : Items) → nodes_in two ds ≡ forest_of two (item_list ds)
 nodes_listed two no_items = refl
-nodes_listed two (item d ds) = ap (node_before two d (children_of two d)) (nodes_listed two ds)
+nodes_listed two (item d ds) = ap (node_before two d (children_from two d)) (nodes_listed two ds)
 
 -- the nodes of a tree are the items of its array
-pub nodes_are : (two : Bool) (v : Data) → nodes_of two v ≡ forest_of two (items_in v)
+pub nodes_are : (two : Bool) (v : Data) → nodes_from two v ≡ forest_of two (items_in v)
 nodes_are two null = refl
 nodes_are two (boolean b) = refl
 nodes_are two (number n) = refl
@@ -75,7 +75,7 @@ before_none (front ∷ fronts) = ap front (before_none fronts)
 
 -- one more node
 pub nodes_more : (two : Bool) (xs : List Value) (i : ℕ) (d : Value) (nodes : List ScriptNode) (made : ScriptNode) (whole : ScriptForest) → i < length xs → d ≡ get_or xs i d
-    → ((rest : ScriptForest) → in_front made rest ≡ node_before two (view d) (children_of two (view d)) rest)
+    → ((rest : ScriptForest) → in_front made rest ≡ node_before two (view d) (children_from two (view d)) rest)
     → before (map in_front nodes) (forest_of two (map view (drop i xs))) ≡ whole
     → before (map in_front (nodes ++ made ∷ [])) (forest_of two (map view (drop (i + 1) xs))) ≡ whole
 nodes_more two xs i d nodes made whole h e m w =

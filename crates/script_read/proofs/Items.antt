@@ -8,18 +8,18 @@ use Rattle.serde_json.specs.Data.{Data, null, boolean, number, string, array, ob
 use Rattle.serde_json.specs.Find.{as_array}
 use Rattle.serde_json.specs.View.{view, items_view}
 use Rattle.serde_json.specs.declared.value.Value.{Value}
-use Rattle.script_read.specs.Members.{listed, items_in}
+use Rattle.script_read.specs.Members.{item_list, items_in}
 use Rattle.script_read.specs.Places.{Pointer, first_of, at_item, first_after}
 use Rattle.script_read.proofs.Lists.{first_two, left_of}
 
 -- the items of an array as a list
-pub listed_view : (xs : List Value) → listed (items_view xs) ≡ map view xs
-listed_view [] = refl
-listed_view (x ∷ xs) = ap (λ rest. view x ∷ rest) (listed_view xs)
+pub item_list-view : (xs : List Value) → item_list (items_view xs) ≡ map view xs
+item_list-view [] = refl
+item_list-view (x ∷ xs) = ap (λ rest. view x ∷ rest) (item_list-view xs)
 
 -- what an array lists
 pub array_items : (d : Data) (xs : List Value) → Some (items_view xs) ≡ as_array d → map view xs ≡ items_in d
-array_items (array ds) xs h = let e : items_view xs ≡ ds = cc in rw (← e, listed_view xs) refl
+array_items (array ds) xs h = let e : items_view xs ≡ ds = cc in rw (← e, item_list-view xs) refl
 array_items null xs h = cc
 array_items (boolean b) xs h = cc
 array_items (number n) xs h = cc

@@ -1,9 +1,7 @@
 -- The scripts that are made can be written.
 use Rattle.std.proofs.Common.{◌≡◌, ℕ, zero, suc, ◌+◌, ◌*◌, ◌%◌, ◌<◌, ◌≤◌, ◌^◌, List, [], ◌∷◌, length, replicate, slice_set, drop, fold, All, Bool, true, false, ◌&&◌, IsTrue, if◌then◌else◌, nat_eq, bytes_eq, Some, None, codes, ℤ, pos, refl, ◌∙◌, arith}
 use Rattle.std.specs.List.{list_any, IsDistinct, range_with_len}
-use Rattle.std.specs.Str.{is_utf8}
 use Rattle.std.proofs.lemmas.Int.{ints}
-use Rattle.std.proofs.lemmas.Str.{IsUtf8-nil, is_utf8-from_IsUtf8}
 use Rattle.std.proofs.lemmas.List.FromFn.{length-range_with_len, get_or-range_with_len}
 use Rattle.std.proofs.lemmas.List.{length-map, length_push}
 use Rattle.std.proofs.lemmas.List.Elements.{All-nil, All-cons, All-head, All-tail, All-push, All-map}
@@ -64,9 +62,6 @@ chained_all P none (front ∷ fronts) a =
 
 -- ---- nodes
 
-no_text : is_utf8 [] ≡ true
-no_text = is_utf8-from_IsUtf8 [] IsUtf8-nil
-
 -- a node of a script that is made is in range, and version 1 has it
 record IsMadeNode (fields : NodeFields) : Type 0 where
   range : AreFieldsInRange fields
@@ -90,7 +85,7 @@ node_made : (tag : ℕ) (kind : Kind) (rows : List (ℕ × ℤ)) → 1 ≤ tag �
     → drop 16 (starts_but rows) ≡ start_of (drop 16 v2_rules) → IsMadeNode (plain_fields tag kind rows)
 node_made tag kind rows l h p d = record {
   range = record { tag = record { low = l; high = h }; props = p; label = omega arith };
-  writable = record { label = no_text; rows = λ e. d };
+  writable = record { rows = λ e. d };
 }
 
 abbrev image_rows : List (ℕ × ℤ)
@@ -184,7 +179,7 @@ background_in_rows c =
 colored_made : (surface x : ℕ) → IsOn surface → IsMadeStep false (colored surface x).made
 colored_made surface x o = record {
   range = record { surface = o; act = (record { low = omega arith; high = omega arith }, record { rows = background_in_rows (next_number (next_number x)); label = tt }) };
-  writable = record { label = tt; rows = λ e. refl };
+  writable = record { rows = λ e. refl };
   is = refl;
 }
 

@@ -1,5 +1,5 @@
 -- What was written of nodes reads back, and has no fault.
-use Rattle.std.proofs.Common.{◌≡◌, ℕ, suc, ◌+◌, ◌<◌, ◌≤◌, ◌^◌, List, [], ◌∷◌, length, Bool, true, Option, Some, None, is_some, IfSome, option_map, option_and_then, unwrap_or, codes, pos, ◌≤ℤ◌, lt-ltb, refl, ap, ◌∙◌, arith}
+use Rattle.std.proofs.Common.{◌≡◌, ℕ, suc, ◌+◌, ◌<◌, ◌≤◌, ◌^◌, List, [], ◌∷◌, length, Bool, true, Option, Some, None, is_some, IsTrue, IfSome, option_map, option_and_then, unwrap_or, codes, pos, ◌≤ℤ◌, lt-ltb, refl, ap, ◌∙◌, arith}
 use Rattle.std.specs.Str.{is_utf8}
 use Rattle.std.proofs.lemmas.Int.{ints}
 use Rattle.std.proofs.lemmas.Bool.Decides.{nat_tests}
@@ -15,13 +15,14 @@ use Rattle.shadow_node.specs.Fields.{NodeFields}
 use Rattle.tree_build.specs.Script.{ScriptForest, no_more, written, kept, kept_with}
 use Rattle.shadow_node.specs.InRange.{IsTagInRange, AreFieldsInRange, IsEditInRange}
 use Rattle.tree_build.specs.InRange.{AreNodesInRange}
-use Rattle.script_read.specs.Members.{integer_of, natural_in, natural_at, text_in, text_at, value_at}
+use Rattle.script_read.specs.Members.{integer_of, natural_in, natural_at, text_in, text_at, member_at}
 use Rattle.script_read.specs.Places.{Pointer, at_member, first_of, refused, in_nodes, in_nodes_from, in_node}
 use Rattle.script_read.specs.Shape.{is_integer, is_text, is_array, is_object, has_node_form, misshapen_node}
 use Rattle.script_read.specs.Faults.{is_tag, no_kind, bad_props, bad_props_in, rules_for, bad_tag_in}
-use Rattle.script_read.specs.Value.{edit_of, props_of, named_label, fields_of, node_before, nodes_of, nodes_in, children_of}
+use Rattle.script_read.specs.Value.{edit_of, props_of, named_label, fields_of, node_before, nodes_from, nodes_in, children_from}
 use Rattle.script_read.specs.Writing.{natural, with_members, object_of, edit_members, edit_json, changed_rows, some_label, some_object, some_array, node_object, written_json, kept_json, nodes_json}
 use Rattle.script_read.specs.Writable.{AreFieldsWritable, IsEditWritable, AreNodesWritable}
+use Rattle.script_read.specs.Fits.{IsEditFit, AreLabelsText}
 use Rattle.script_read.proofs.PutRows.{rows_same}
 use Rattle.script_read.proofs.EditBack.{IsLabel, no_bad_props, members_of_props, edit_back, named_label_back, same_props, changed_in_rows, changed_unnamed, props_merged, merged-changed}
 
@@ -35,7 +36,7 @@ record IsNode (tag keep kind given children : Option Data) (node : Data) : Type 
   has_children : get (codes "children") node ≡ children
   below : (refuse : Data → Option Pointer)
       → in_node refuse node ≡ first_of (refuse node ∷ at_member (codes "children") (option_and_then (in_nodes refuse) children) ∷ [])
-  inside : (two : Bool) → children_of two node ≡ option_map (nodes_of two) children
+  inside : (two : Bool) → children_from two node ≡ option_map (nodes_from two) children
 
 written_is : (tag kind : Data) (given children : Option Data)
     → IsNode (Some tag) None (Some kind) given children (node_object ((codes "tag", tag) ∷ (codes "kind", kind) ∷ []) given children)
@@ -223,42 +224,42 @@ object_faultless : (two : Bool) (members : List (List ℕ × Data)) → bad_prop
 object_faultless two [] e = tt
 object_faultless two (one ∷ members) e = e
 
-pub edit_faultless : (two : Bool) (edit : NodeEdit) → IsEditInRange edit → IsEditWritable two edit → bad_props (rules_for two) (edit_json edit) ≡ None
-edit_faultless two edit r w =
-    no_bad_props two edit.rows edit.label (with_members (edit_members edit.rows edit.label) no_members) r.rows (label_by edit.label r.label w.label) w.rows
+pub edit_faultless : (two : Bool) (edit : NodeEdit) → IsEditInRange edit → IsEditWritable two edit → IsEditFit edit → bad_props (rules_for two) (edit_json edit) ≡ None
+edit_faultless two edit r w f =
+    no_bad_props two edit.rows edit.label (with_members (edit_members edit.rows edit.label) no_members) r.rows (label_by edit.label r.label f) w.rows
     (members_of_props edit.rows edit.label (AreEditsInRows-length v2_rules edit.rows r.rows))
 
-change_faultless : (two : Bool) (change : Option NodeEdit) → IfSome change IsEditInRange → IfSome change (IsEditWritable two) → HaveNoFault two (option_map edit_json change)
-change_faultless two None r w = tt
-change_faultless two (Some edit) r w = edit_faultless two edit r w
+change_faultless : (two : Bool) (change : Option NodeEdit) → IfSome change IsEditInRange → IfSome change (IsEditWritable two) → IfSome change IsEditFit → HaveNoFault two (option_map edit_json change)
+change_faultless two None r w f = tt
+change_faultless two (Some edit) r w f = edit_faultless two edit r w f
 
-written_faultless : (two : Bool) (fields : NodeFields) → AreFieldsInRange fields → AreFieldsWritable two fields → HaveNoFault two (written_props fields)
-written_faultless two fields r w =
+written_faultless : (two : Bool) (fields : NodeFields) → AreFieldsInRange fields → AreFieldsWritable two fields → IsTrue (is_utf8 fields.label) → HaveNoFault two (written_props fields)
+written_faultless two fields r w f =
     object_faultless two (edit_members (changed_rows v2_rules fields.props) (some_label fields.label))
     (no_bad_props two (changed_rows v2_rules fields.props) (some_label fields.label) (with_members (edit_members (changed_rows v2_rules fields.props) (some_label fields.label)) no_members)
-    (changed_in_rows v2_rules fields.props r.props) (some_label_by fields.label r.label w.label) (changed_unnamed two fields.props w.rows)
+    (changed_in_rows v2_rules fields.props r.props) (some_label_by fields.label r.label f) (changed_unnamed two fields.props w.rows)
     (members_of_props (changed_rows v2_rules fields.props) (some_label fields.label)
     (AreEditsInRows-length v2_rules (changed_rows v2_rules fields.props) (changed_in_rows v2_rules fields.props r.props))))
 
-pub nodes_propped : (two : Bool) (nodes : ScriptForest) → AreNodesInRange nodes → AreNodesWritable two nodes → PassNodes (bad_props_in two) nodes
-nodes_propped two no_more r w = tt
-nodes_propped two (written fields children siblings) r w =
-    (propped two (written_node fields (nodes_json children)) (written_faultless two fields r.0 w.0), nodes_propped two children r.1 w.1, nodes_propped two siblings r.2 w.2)
-nodes_propped two (kept tag change siblings) r w =
-    (propped two (kept_node tag change None) (change_faultless two change r.1 w.0), nodes_propped two siblings r.2 w.1)
-nodes_propped two (kept_with tag change children siblings) r w =
-    (propped two (kept_node tag change (Some (nodes_json children))) (change_faultless two change r.1 w.0), nodes_propped two children r.2 w.1, nodes_propped two siblings r.3 w.2)
+pub nodes_propped : (two : Bool) (nodes : ScriptForest) → AreNodesInRange nodes → AreNodesWritable two nodes → AreLabelsText nodes → PassNodes (bad_props_in two) nodes
+nodes_propped two no_more r w f = tt
+nodes_propped two (written fields children siblings) r w f =
+    (propped two (written_node fields (nodes_json children)) (written_faultless two fields r.0 w.0 f.0), nodes_propped two children r.1 w.1 f.1, nodes_propped two siblings r.2 w.2 f.2)
+nodes_propped two (kept tag change siblings) r w f =
+    (propped two (kept_node tag change None) (change_faultless two change r.1 w.0 f.0), nodes_propped two siblings r.2 w.1 f.1)
+nodes_propped two (kept_with tag change children siblings) r w f =
+    (propped two (kept_node tag change (Some (nodes_json children))) (change_faultless two change r.1 w.0 f.0), nodes_propped two children r.2 w.1 f.1, nodes_propped two siblings r.3 w.2 f.2)
 
 -- ---- what reads back
 
-pub edit_of_back : (two : Bool) (edit : NodeEdit) → IsEditInRange edit → IsEditWritable two edit → edit_of two (edit_json edit) ≡ edit
-edit_of_back two edit r w =
+pub edit_of_back : (two : Bool) (edit : NodeEdit) → IsEditInRange edit → IsEditWritable two edit → IsEditFit edit → edit_of two (edit_json edit) ≡ edit
+edit_of_back two edit r w f =
     let p = members_of_props edit.rows edit.label (AreEditsInRows-length v2_rules edit.rows r.rows) in
-    rw (edit_back two edit.rows (edit_json edit) r.rows w.rows p.rows, named_label_back edit.label (edit_json edit) (label_by edit.label r.label w.label) p.label) refl
+    rw (edit_back two edit.rows (edit_json edit) r.rows w.rows p.rows, named_label_back edit.label (edit_json edit) (label_by edit.label r.label f) p.label) refl
 
-change_back : (two : Bool) (change : Option NodeEdit) → IfSome change IsEditInRange → IfSome change (IsEditWritable two) → option_map (edit_of two) (option_map edit_json change) ≡ change
-change_back two None r w = refl
-change_back two (Some edit) r w = ap Some (edit_of_back two edit r w)
+change_back : (two : Bool) (change : Option NodeEdit) → IfSome change IsEditInRange → IfSome change (IsEditWritable two) → IfSome change IsEditFit → option_map (edit_of two) (option_map edit_json change) ≡ change
+change_back two None r w f = refl
+change_back two (Some edit) r w f = ap Some (edit_of_back two edit r w f)
 
 kind_back : (kind : Kind) → unwrap_or (kind_of_word (word_of kind)) View ≡ kind
 kind_back View = refl
@@ -267,15 +268,15 @@ kind_back Image = refl
 kind_back Scroll = refl
 kind_back Input = refl
 
-written_value : (fields : NodeFields) (children : Items) → value_at (codes "props") (written_json fields children) ≡ unwrap_or (written_props fields) null
+written_value : (fields : NodeFields) (children : Items) → member_at (codes "props") (written_json fields children) ≡ unwrap_or (written_props fields) null
 written_value fields children = rw (written_node fields children).has_props refl
 
 some_label_back : (label : List ℕ) → unwrap_or (some_label label) [] ≡ label
 some_label_back [] = refl
 some_label_back (byte ∷ bytes) = refl
 
-fields_back : (two : Bool) (fields : NodeFields) (children : Items) → AreFieldsInRange fields → AreFieldsWritable two fields → fields_of two (written_json fields children) ≡ fields
-fields_back two fields children r w =
+fields_back : (two : Bool) (fields : NodeFields) (children : Items) → AreFieldsInRange fields → AreFieldsWritable two fields → IsTrue (is_utf8 fields.label) → fields_of two (written_json fields children) ≡ fields
+fields_back two fields children r w f =
     let edit : EditList = changed_rows v2_rules fields.props in
     let i = changed_in_rows v2_rules fields.props r.props in
     let members = edit_members edit (some_label fields.label) in
@@ -285,13 +286,13 @@ fields_back two fields children r w =
     let n = written_node fields children in
     let tag : natural_at (codes "tag") (written_json fields children) ≡ fields.tag = rw n.has_tag (natural_in-back fields.tag (omega (arith, r.tag.high))) in
     let kind : unwrap_or (kind_of_word (text_at (codes "kind") (written_json fields children))) View ≡ fields.kind = rw n.has_kind (kind_back fields.kind) in
-    let props : props_of two (value_at (codes "props") (written_json fields children)) ≡ fields.props =
+    let props : props_of two (member_at (codes "props") (written_json fields children)) ≡ fields.props =
     rw (written_value fields children, props_merged two given, edit_back two edit given i (changed_unnamed two fields.props w.rows) rows) (merged-changed v2_rules fields.props r.props) in
-    let label : unwrap_or (named_label (value_at (codes "props") (written_json fields children))) [] ≡ fields.label =
-    rw (written_value fields children, named_label_back (some_label fields.label) given (some_label_by fields.label r.label w.label) (same_props members (codes "label") ∙ p.label)) (some_label_back fields.label) in
+    let label : unwrap_or (named_label (member_at (codes "props") (written_json fields children))) [] ≡ fields.label =
+    rw (written_value fields children, named_label_back (some_label fields.label) given (some_label_by fields.label r.label f) (same_props members (codes "label") ∙ p.label)) (some_label_back fields.label) in
     rw (tag, kind, props, label) refl
 
-some_array-back : (two : Bool) (items : Items) → unwrap_or (option_map (nodes_of two) (some_array items)) no_more ≡ nodes_in two items
+some_array-back : (two : Bool) (items : Items) → unwrap_or (option_map (nodes_from two) (some_array items)) no_more ≡ nodes_in two items
 some_array-back two no_items = refl
 some_array-back two (item value items) = refl
 
@@ -303,19 +304,19 @@ same_written : {fields others : NodeFields} {children below siblings later : Scr
     → written fields children siblings ≡ written others below later
 same_written f c l = rw (f, c, l) refl
 
-pub nodes_back : (two : Bool) (nodes : ScriptForest) → AreNodesInRange nodes → AreNodesWritable two nodes → nodes_in two (nodes_json nodes) ≡ nodes
-nodes_back two no_more r w = refl
-nodes_back two (written fields children siblings) r w =
+pub nodes_back : (two : Bool) (nodes : ScriptForest) → AreNodesInRange nodes → AreNodesWritable two nodes → AreLabelsText nodes → nodes_in two (nodes_json nodes) ≡ nodes
+nodes_back two no_more r w f = refl
+nodes_back two (written fields children siblings) r w f =
     let n = written_node fields (nodes_json children) in
-    let below : unwrap_or (children_of two (written_json fields (nodes_json children))) no_more ≡ children =
-    rw (n.inside two, some_array-back two (nodes_json children)) (nodes_back two children r.1 w.1) in
-    node_written two (written_json fields (nodes_json children)) (natural fields.tag) (children_of two (written_json fields (nodes_json children))) (nodes_in two (nodes_json siblings)) n.has_tag
-    ∙ same_written (fields_back two fields (nodes_json children) r.0 w.0) below (nodes_back two siblings r.2 w.2)
-nodes_back two (kept tag change siblings) r w =
+    let below : unwrap_or (children_from two (written_json fields (nodes_json children))) no_more ≡ children =
+    rw (n.inside two, some_array-back two (nodes_json children)) (nodes_back two children r.1 w.1 f.1) in
+    node_written two (written_json fields (nodes_json children)) (natural fields.tag) (children_from two (written_json fields (nodes_json children))) (nodes_in two (nodes_json siblings)) n.has_tag
+    ∙ same_written (fields_back two fields (nodes_json children) r.0 w.0 f.0) below (nodes_back two siblings r.2 w.2 f.2)
+nodes_back two (kept tag change siblings) r w f =
     let n = kept_node tag change None in
     let same : natural_at (codes "keep") (kept_json tag change None) ≡ tag = rw n.has_keep (natural_in-back tag (omega (arith, r.0.high))) in
-    rw (n.has_tag, n.inside two, n.has_props, same, change_back two change r.1 w.0, nodes_back two siblings r.2 w.1) refl
-nodes_back two (kept_with tag change children siblings) r w =
+    rw (n.has_tag, n.inside two, n.has_props, same, change_back two change r.1 w.0 f.0, nodes_back two siblings r.2 w.1 f.1) refl
+nodes_back two (kept_with tag change children siblings) r w f =
     let n = kept_node tag change (Some (nodes_json children)) in
     let same : natural_at (codes "keep") (kept_json tag change (Some (nodes_json children))) ≡ tag = rw n.has_keep (natural_in-back tag (omega (arith, r.0.high))) in
-    rw (n.has_tag, n.inside two, n.has_props, same, change_back two change r.1 w.0, nodes_back two children r.2 w.1, nodes_back two siblings r.3 w.2) refl
+    rw (n.has_tag, n.inside two, n.has_props, same, change_back two change r.1 w.0 f.0, nodes_back two children r.2 w.1 f.1, nodes_back two siblings r.3 w.2 f.2) refl

@@ -1,5 +1,5 @@
 -- Lists of the values of nodes.
-use Rattle.std.proofs.Common.{◌≡◌, ℕ, suc, ◌+◌, ◌<◌, ◌≤◌, List, [], ◌∷◌, ◌++◌, map, length, get_or, drop, drop-cons, add-one, refl, ap, sym, ◌∙◌}
+use Rattle.std.proofs.Common.{◌≡◌, ℕ, suc, ◌+◌, ◌<◌, ◌≤◌, List, [], ◌∷◌, ◌++◌, map, length, get_or, drop, drop-cons, add-one, refl, ap, sym, subst, ◌∙◌}
 use Rattle.std.proofs.Math.ListN.{drop_of_length-le}
 use Rattle.std.proofs.lemmas.List.{map-append}
 use Rattle.serde_json.specs.Data.{Items, item}
@@ -8,6 +8,7 @@ use Rattle.serde_json.specs.declared.value.Value.{Value}
 use Rattle.tree_build.specs.declared.ScriptNode.{ScriptNode}
 use Rattle.tree_build.specs.Script.{ScriptForest, no_more, in_front, script_forest}
 use Rattle.script_read.specs.Writing.{nodes_json}
+use Rattle.script_read.specs.Fits.{AreLabelsText}
 use Rattle.script_read.proofs.ValueLists.{items_then, items_then-pushed, items_then-none}
 
 -- the script nodes from an index on: the one there in front of those after it
@@ -35,3 +36,14 @@ pub all_nodes : (nodes : List ScriptNode) (i : ℕ) (vs : List Value) (whole : I
     → items_then (map view vs) (nodes_json (script_forest (drop i nodes))) ≡ whole → items_view vs ≡ whole
 all_nodes nodes i vs whole past before =
     sym (items_then-none (map view vs)) ∙ ap (λ left. items_then (map view vs) (nodes_json left)) (sym (script_forest-drop_end nodes i past)) ∙ before
+
+-- where the labels of the nodes after the next one carry over to all, those of the next one do
+pub labels_after : (nodes : List ScriptNode) (i : ℕ) (node : ScriptNode) (Whole : Type 0) → i < length nodes → node ≡ get_or nodes i node
+    → ((rest : ScriptForest) → AreLabelsText rest → AreLabelsText (in_front node rest)) → (AreLabelsText (script_forest (drop i nodes)) → Whole)
+    → AreLabelsText (script_forest (drop (i + 1) nodes)) → Whole
+labels_after nodes i node Whole within is here before later =
+    before (subst AreLabelsText (sym (script_forest-drop nodes i node within is)) (here (script_forest (drop (i + 1) nodes)) later))
+
+-- no labels are left after the last index
+pub labels_all : (nodes : List ScriptNode) (i : ℕ) (Whole : Type 0) → length nodes ≤ i → (AreLabelsText (script_forest (drop i nodes)) → Whole) → Whole
+labels_all nodes i Whole past before = before (subst AreLabelsText (sym (script_forest-drop_end nodes i past)) tt)

@@ -16,13 +16,14 @@ use Rattle.script_read.specs.Words.{is_version_two}
 use Rattle.script_read.specs.Shape.{misshapen_surface, misshapen, misshapen_script, is_integer, not_integers}
 use Rattle.script_read.specs.Faults as fault
 use Rattle.script_read.specs.Value.{actor_of, surface_of, script_of}
-use Rattle.script_read.specs.Reads.{fault_of, placed, first_fault, json_in, fault_at, script_unless, script_in}
+use Rattle.script_read.specs.Reads.{fault_of, with_place, first_fault, json_in, fault_at, script_unless, script_in}
 use Rattle.script_read.specs.Writing.{natural, actor_json, surface_json, json_of}
-use Rattle.script_read.specs.Writable.{IsActWritable, IsActFit, IsWritable}
+use Rattle.script_read.specs.Writable.{IsActWritable, IsWritable}
+use Rattle.script_read.specs.Fits.{IsActFit}
 use Rattle.script_read.specs.declared.script.ScriptFault.TheVariants.{Shape, Version, TooMany, BadName, BadSurface, BadKind, BadProp, BadTag, TwoMounters, BadTurn}
 use Rattle.script_read.proofs.NodeBack.{natural_in-back, integer_passes}
 use Rattle.script_read.proofs.StepBack.{step_passes, step_formed, step_placed, step_propped, step_tagged, act_nodes_formed, act_nodes_kinded, act_nodes_tagged, act_nodes_propped, act_nodes_unrefused}
-use Rattle.script_read.proofs.ScriptBack.{listed_back, none_after, distinct_after, map_back, surface_formed, surface_back, id_back, surface_placed, surface_small, surfaces_found, IsGoodStep, IsGoodActor, actor_formed, actors_pass, actor_back, actors_mount, name_placed, steps_under}
+use Rattle.script_read.proofs.ScriptBack.{item_list-back, none_after, distinct_after, map_back, surface_formed, surface_back, id_back, surface_placed, surface_small, surfaces_found, IsGoodStep, IsGoodActor, actor_formed, actors_pass, actor_back, actors_mount, name_placed, steps_under}
 
 -- the version of a script
 abbrev two_of : PlainScript → Bool
@@ -94,8 +95,8 @@ eight p q r s t u v w = rw (p, q, r, s, t, u, v, w) refl
 no_fault_by : {form count name surface kind prop tag : Option Pointer} {known : Bool} {mounter turn : Option ℕ} → form ≡ None → known ≡ true → count ≡ None → name ≡ None
     → surface ≡ None → kind ≡ None → prop ≡ None → tag ≡ None → mounter ≡ None → turn ≡ None
     → first_of (
-    placed Shape form ∷ (if known then None else Some Version) ∷ placed TooMany count ∷ placed BadName name ∷ placed BadSurface surface ∷ placed BadKind kind ∷
-    placed BadProp prop ∷ placed BadTag tag ∷ option_map TwoMounters mounter ∷ option_map BadTurn turn ∷ [])
+    with_place Shape form ∷ (if known then None else Some Version) ∷ with_place TooMany count ∷ with_place BadName name ∷ with_place BadSurface surface ∷ with_place BadKind kind ∷
+    with_place BadProp prop ∷ with_place BadTag tag ∷ option_map TwoMounters mounter ∷ option_map BadTurn turn ∷ [])
     ≡ None
 no_fault_by a b c d e f g h i j = rw (a, b, c, d, e, f, g, h, i, j) refl
 
@@ -117,9 +118,9 @@ form_of script g =
     let all_actors : in_actors (misshapen (is_version_two (json_of script))) (json_of script) ≡ None
     = subst (λ b. in_actors (misshapen b) (json_of script) ≡ None) (sym (version_back script g)) actors in
     let surfaces : in_items (codes "surfaces") (λ before surface. misshapen_surface surface) (json_of script) ≡ None
-    = rw (listed_back (map surface_json script.surfaces), none_after (λ before surface. misshapen_surface surface) surface_json IsSurfaceInRange (λ before surface. surface_formed surface) script.surfaces [] g.sound.surfaces) refl in
+    = rw (item_list-back (map surface_json script.surfaces), none_after (λ before surface. misshapen_surface surface) surface_json IsSurfaceInRange (λ before surface. surface_formed surface) script.surfaces [] g.sound.surfaces) refl in
     let turns : in_member (codes "turns") not_integers (json_of script) ≡ None
-    = rw (listed_back (map natural script.turns), none_after (λ before item. unless (is_integer item)) natural (λ turn. turn < length script.actors) (λ before turn t. rw (integer_passes turn (turn_fits turn (length script.actors) t g.counts.actors)) refl) script.turns [] g.sound.turns) refl in
+    = rw (item_list-back (map natural script.turns), none_after (λ before item. unless (is_integer item)) natural (λ turn. turn < length script.actors) (λ before turn t. rw (integer_passes turn (turn_fits turn (length script.actors) t g.counts.actors)) refl) script.turns [] g.sound.turns) refl in
     let number : refused (codes "version") is_integer (json_of script) ≡ None = rw (lt-ltb script.version (2 ^ 63) version) refl in
     eight refl number refl surfaces refl all_actors refl turns
 
@@ -128,13 +129,13 @@ form_of script g =
 counted : (script : PlainScript) → IsGoodScript script → fault.too_many (json_of script) ≡ None
 counted script g =
     let surfaces : at_member (codes "surfaces") (unless (nat_le (fault.item_count (codes "surfaces") (json_of script)) 8)) ≡ None
-    = rw (listed_back (map surface_json script.surfaces), length-map script.surfaces surface_json, le-leb (length script.surfaces) 8 g.counts.surfaces) refl in
+    = rw (item_list-back (map surface_json script.surfaces), length-map script.surfaces surface_json, le-leb (length script.surfaces) 8 g.counts.surfaces) refl in
     let actors : at_member (codes "actors") (unless (nat_le (fault.item_count (codes "actors") (json_of script)) 16)) ≡ None
-    = rw (listed_back (map actor_json script.actors), length-map script.actors actor_json, le-leb (length script.actors) 16 g.counts.actors) refl in
+    = rw (item_list-back (map actor_json script.actors), length-map script.actors actor_json, le-leb (length script.actors) 16 g.counts.actors) refl in
     let steps : in_items (codes "actors") fault.over_steps (json_of script) ≡ None
-    = rw (listed_back (map actor_json script.actors), steps_under script.actors [] g.counts.steps) refl in
+    = rw (item_list-back (map actor_json script.actors), steps_under script.actors [] g.counts.steps) refl in
     let turns : at_member (codes "turns") (unless (nat_le (fault.item_count (codes "turns") (json_of script)) 65536)) ≡ None
-    = rw (listed_back (map natural script.turns), length-map script.turns natural, le-leb (length script.turns) 65536 g.counts.turns) refl in
+    = rw (item_list-back (map natural script.turns), length-map script.turns natural, le-leb (length script.turns) 65536 g.counts.turns) refl in
     four surfaces actors steps turns
 
 -- ---- names
@@ -147,7 +148,7 @@ named : (script : PlainScript) → IsGoodScript script → fault.bad_name (json_
 named script g =
     let P = IsGoodActor (two_of script) (ids_of script.surfaces) in
     rw (
-      listed_back (map actor_json script.actors),
+      item_list-back (map actor_json script.actors),
       distinct_after bytes_eq (λ actor. actor.name) fault.bad_name_in actor_json P (λ earlier actor e a n. name_placed (two_of script) (ids_of script.surfaces) earlier actor e a n)
           script.actors [] (All-nil P) (none_earlier bytes_eq (λ (actor : PlainActor). actor.name) (names_of script.actors)) g.sound.names_differ g.actors,
     ) refl
@@ -160,7 +161,7 @@ on_surfaces script g =
     let ids = ids_of script.surfaces in
     let plans : in_items (codes "surfaces") fault.bad_plan (json_of script) ≡ None
     = rw (
-      listed_back (map surface_json script.surfaces),
+      item_list-back (map surface_json script.surfaces),
       distinct_after nat_eq (λ surface. surface.id) fault.bad_plan surface_json IsSurfaceInRange surface_placed script.surfaces [] (All-nil IsSurfaceInRange)
           (none_earlier nat_eq (λ (surface : PlainSurface). surface.id) ids) g.sound.ids_differ g.sound.surfaces,
     ) refl in
@@ -170,7 +171,7 @@ on_surfaces script g =
     (λ step s.
     step_passes refusals step
     (step_placed (json_of script) step (step_fits two ids step s)
-    (ap (λ values. fault.is_surface values (pos step.surface)) (listed_back (map surface_json script.surfaces)) ∙ surfaces_found script.surfaces step.surface g.sound.surfaces ∙ s.range.surface) s.range.act)
+    (ap (λ values. fault.is_surface values (pos step.surface)) (item_list-back (map surface_json script.surfaces)) ∙ surfaces_found script.surfaces step.surface g.sound.surfaces ∙ s.range.surface) s.range.act)
     (act_nodes_unrefused step.act)) in
     two_none plans steps
 
@@ -187,7 +188,7 @@ props_taken script g =
     let refusals : Bool → Refusals = λ b. record { of_actor = nowhere; of_step = fault.bad_props_in b; of_node = fault.bad_props_in b } in
     subst (λ b. in_actors (refusals b) (json_of script) ≡ None) (sym (version_back script g))
     (actors_pass two (ids_of script.surfaces) (refusals two) script g.actors (λ actor a. refl)
-    (λ step s. step_passes (refusals two) step (step_propped two step s.range.act s.writable) (act_nodes_propped two step.act s.range.act s.writable)))
+    (λ step s. step_passes (refusals two) step (step_propped two step s.range.act s.writable s.fit) (act_nodes_propped two step.act s.range.act s.writable s.fit)))
 
 tags_in_range : (script : PlainScript) → IsGoodScript script → fault.bad_tag (json_of script) ≡ None
 tags_in_range script g =
@@ -212,12 +213,12 @@ one_mounter script g =
     let each : (surface : PlainSurface) → P surface → fault.is_shared d (surface_json surface) ≡ false =
     λ surface p.
     rw (
-      listed_back (map actor_json script.actors),
+      item_list-back (map actor_json script.actors),
       actors_mount (two_of script) (ids_of script.surfaces) (surface_json surface) surface.id script.actors (id_back surface p.0) g.actors,
     )
     (not_more (count_by (mounts_on surface.id) script.actors) p.1) in
     rw (
-      listed_back (map surface_json script.surfaces),
+      item_list-back (map surface_json script.surfaces),
       find_none (fault.is_shared d) surface_json P each script.surfaces (λ k e h. (g.sound.surfaces k e h, one k e h)),
     ) refl
 
@@ -236,13 +237,13 @@ turns_taken : (script : PlainScript) → IsGoodScript script → fault.bad_turn 
 turns_taken script g =
     let d = json_of script in
     let P : ℕ → Type 0 = λ turn. turn < length script.actors in
-    let actors : fault.item_count (codes "actors") d ≡ length script.actors = rw (listed_back (map actor_json script.actors)) (length-map script.actors actor_json) in
+    let actors : fault.item_count (codes "actors") d ≡ length script.actors = rw (item_list-back (map actor_json script.actors)) (length-map script.actors actor_json) in
     let each : (turn : ℕ) → P turn → not (fault.is_turn d (natural turn)) ≡ false =
     λ turn t.
     let yes : fault.is_turn d (natural turn) ≡ true =
     rw (lt-ltb turn (2 ^ 63) (turn_fits turn (length script.actors) t g.counts.actors), actors) (below_count turn (length script.actors) t) in
     ap not yes in
-    rw (listed_back (map natural script.turns), all_before (λ turn. not (fault.is_turn d turn)) natural P each script.turns g.sound.turns, not_below (length (map natural script.turns))) refl
+    rw (item_list-back (map natural script.turns), all_before (λ turn. not (fault.is_turn d turn)) natural P each script.turns g.sound.turns, not_below (length (map natural script.turns))) refl
 
 -- ---- all together
 
@@ -257,13 +258,13 @@ script_back script g =
     let ids = ids_of script.surfaces in
     let version : natural_at (codes "version") (json_of script) ≡ script.version = natural_in-back script.version g.small in
     let surfaces : map surface_of (items_at (codes "surfaces") (json_of script)) ≡ script.surfaces
-    = ap (map surface_of) (listed_back (map surface_json script.surfaces)) ∙ map_back surface_of surface_json IsSurfaceInRange surface_back script.surfaces g.sound.surfaces in
+    = ap (map surface_of) (item_list-back (map surface_json script.surfaces)) ∙ map_back surface_of surface_json IsSurfaceInRange surface_back script.surfaces g.sound.surfaces in
     let actors : map (actor_of (is_version_two (json_of script))) (items_at (codes "actors") (json_of script)) ≡ script.actors
     = ap (λ b. map (actor_of b) (items_at (codes "actors") (json_of script))) (version_back script g)
-    ∙ ap (map (actor_of two)) (listed_back (map actor_json script.actors))
+    ∙ ap (map (actor_of two)) (item_list-back (map actor_json script.actors))
     ∙ map_back (actor_of two) actor_json (IsGoodActor two ids) (actor_back two ids) script.actors g.actors in
     let turns : map natural_in (items_at (codes "turns") (json_of script)) ≡ script.turns
-    = ap (map natural_in) (listed_back (map natural script.turns))
+    = ap (map natural_in) (item_list-back (map natural script.turns))
     ∙ map_back natural_in natural (λ turn. turn < length script.actors) (λ turn t. natural_in-back turn (turn_small turn (length script.actors) t g.counts.actors)) script.turns g.sound.turns in
     same_script version surfaces actors turns
 

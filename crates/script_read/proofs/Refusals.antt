@@ -6,7 +6,7 @@ use Rattle.std.specs.Prelude.{Bool, true, false, ◌&&◌, cond, nat_eq, Option,
 use Rattle.std.specs.List.{AllByRecursion}
 use Rattle.serde_json.specs.Data.{Data, null}
 use Rattle.serde_json.specs.Find.{get, as_object}
-use Rattle.script_read.specs.Members.{names_found, has_form, member_count, value_at, items_at}
+use Rattle.script_read.specs.Members.{names_found, has_form, member_count, member_at, items_at}
 use Rattle.script_read.specs.Places.{Pointer, Refusals, first_of, unless, at_item, in_member, refused, first_after, in_items, in_nodes, in_step, in_actor, in_actors}
 
 -- none of some places: not the first
@@ -41,13 +41,13 @@ found_passes test None h n = n refl
 found_passes test (Some value) h n = unless_holds (test value) h
 
 -- a member that is not refused passes, where it is there
-pub passes_there : (name : List ℕ) (test : Data → Bool) (value : Data) → refused name test value ≡ None → is_some (get name value) ≡ true → test (value_at name value) ≡ true
+pub passes_there : (name : List ℕ) (test : Data → Bool) (value : Data) → refused name test value ≡ None → is_some (get name value) ≡ true → test (member_at name value) ≡ true
 passes_there name test value h there =
     found_passes test (get name value) (none_mapped (λ (pointer : List ℕ). codes "/" ++ name ++ pointer) (option_and_then (λ found. unless (test found)) (get name value)) h)
     (λ missing. cc)
 
 -- or where what stands for it passes
-pub passes_always : (name : List ℕ) (test : Data → Bool) (value : Data) → refused name test value ≡ None → test null ≡ true → test (value_at name value) ≡ true
+pub passes_always : (name : List ℕ) (test : Data → Bool) (value : Data) → refused name test value ≡ None → test null ≡ true → test (member_at name value) ≡ true
 passes_always name test value h n =
     found_passes test (get name value) (none_mapped (λ (pointer : List ℕ). codes "/" ++ name ++ pointer) (option_and_then (λ found. unless (test found)) (get name value)) h)
     (λ missing. n)
@@ -57,7 +57,7 @@ found_refused refuse None h n = n
 found_refused refuse (Some value) h n = h
 
 -- a member in which nothing is refused
-pub member_passes : (name : List ℕ) (refuse : Data → Option Pointer) (value : Data) → in_member name refuse value ≡ None → refuse null ≡ None → refuse (value_at name value) ≡ None
+pub member_passes : (name : List ℕ) (refuse : Data → Option Pointer) (value : Data) → in_member name refuse value ≡ None → refuse null ≡ None → refuse (member_at name value) ≡ None
 member_passes name refuse value h n =
     found_refused refuse (get name value) (none_mapped (λ (pointer : List ℕ). codes "/" ++ name ++ pointer) (option_and_then refuse (get name value)) h) n
 
@@ -115,7 +115,7 @@ pub step_passes : (refusals : Refusals) (step : Data) → in_step refusals step 
 step_passes refusals step h = none_first (refusals.of_step step) (in_member (codes "tree") (in_nodes refusals.of_node) step ∷ []) h
 
 -- nor is a node of its tree
-pub tree_passes : (refusals : Refusals) (step : Data) → in_step refusals step ≡ None → in_nodes refusals.of_node (value_at (codes "tree") step) ≡ None
+pub tree_passes : (refusals : Refusals) (step : Data) → in_step refusals step ≡ None → in_nodes refusals.of_node (member_at (codes "tree") step) ≡ None
 tree_passes refusals step h =
     member_passes (codes "tree") (in_nodes refusals.of_node) step
     (none_first (in_member (codes "tree") (in_nodes refusals.of_node) step) []

@@ -10,7 +10,7 @@ use Rattle.prop_table.specs.Edits.{EditList, edited}
 use Rattle.prop_table.specs.Table.{RowRule, start_of}
 use Rattle.prop_table.specs.Rules.{rule_of, rule_at, no_rule}
 use Rattle.prop_table.specs.declared.table.Row.{Row}
-use Rattle.script_read.specs.Value.{named_row, rows_of, named_rows, marked}
+use Rattle.script_read.specs.Value.{named_row, rows_of, named_rows, edit_with}
 
 -- the rule of a row that was read
 pub rule_read : (rows : List Row) (i : ℕ) (row : Row) → i < length rows → row ≡ get_or rows i row → rule_at (map rule_of rows) i ≡ rule_of row
@@ -49,16 +49,16 @@ rows_end given rules i props h p = p ∙ (rw (take_all i rules h, drop_of_length
 abbrev pub edits_to : ℕ → List RowRule → Data → EditList
 edits_to i rules given = map (named_row given) (take i rules) ++ replicate (length (drop i rules)) None
 
-marked_later : (first : Option (Option ℤ)) (edit : EditList) (i : ℕ) (said : Option (Option ℤ)) → marked (first ∷ edit) (suc i) said ≡ first ∷ marked edit i said
+marked_later : (first : Option (Option ℤ)) (edit : EditList) (i : ℕ) (said : Option (Option ℤ)) → edit_with (first ∷ edit) (suc i) said ≡ first ∷ edit_with edit i said
 marked_later first edit i None = refl
 marked_later first edit i (Some value) = refl
 
-marked_first : (edit : EditList) (said : Option (Option ℤ)) → marked (None ∷ edit) 0 said ≡ said ∷ edit
+marked_first : (edit : EditList) (said : Option (Option ℤ)) → edit_with (None ∷ edit) 0 said ≡ said ∷ edit
 marked_first edit None = refl
 marked_first edit (Some value) = refl
 
 edits_next : (given : Data) (rules : List RowRule) (i : ℕ) → i < length rules
-    → marked (edits_to i rules given) i (named_row given (rule_at rules i)) ≡ edits_to (suc i) rules given
+    → edit_with (edits_to i rules given) i (named_row given (rule_at rules i)) ≡ edits_to (suc i) rules given
 edits_next given [] i h = absurd (omega arith)
 edits_next given (rule ∷ rules) zero h = marked_first (replicate (length rules) None) (named_row given rule)
 edits_next given (rule ∷ rules) (suc i) h =
@@ -67,7 +67,7 @@ edits_next given (rule ∷ rules) (suc i) h =
 
 -- one more row
 pub edits_more : (given : Data) (rules : List RowRule) (i : ℕ) (edit next : EditList) → i < length rules → edit ≡ edits_to i rules given
-    → next ≡ marked edit i (named_row given (rule_at rules i)) → next ≡ edits_to (i + 1) rules given
+    → next ≡ edit_with edit i (named_row given (rule_at rules i)) → next ≡ edits_to (i + 1) rules given
 edits_more given rules i edit next h p n = n ∙ (rw (p, add-one) (edits_next given rules i h))
 
 -- all rows

@@ -15,13 +15,14 @@ use Rattle.native_state.specs.declared.StateChange.TheVariants.{Set, Add, SetIf}
 use Rattle.tree_revision.specs.Script.{PlainAct, commit, hold, mount, PlainStep, PlainActor, PlainSurface, PlainScript}
 use Rattle.tree_revision.specs.InRange.{IsSurfaceInRange, IsStepInRange}
 use Rattle.tree_revision.specs.Sound.{is_name_byte, is_name, ids_of, is_mount, mounts_on, step_count}
-use Rattle.script_read.specs.Members.{listed, items_at, integer_at}
+use Rattle.script_read.specs.Members.{item_list, items_at, integer_at}
 use Rattle.script_read.specs.Places.{Pointer, Refusals, first_after, in_actor, in_actors, in_step}
 use Rattle.script_read.specs.Shape.{misshapen_actor, misshapen_surface}
 use Rattle.script_read.specs.Faults as fault
 use Rattle.script_read.specs.Value.{step_of, actor_of, surface_of}
 use Rattle.script_read.specs.Writing.{step_json, act_json, actor_json, surface_json, json_of}
-use Rattle.script_read.specs.Writable.{IsActWritable, IsActFit}
+use Rattle.script_read.specs.Writable.{IsActWritable}
+use Rattle.script_read.specs.Fits.{IsActFit}
 use Rattle.script_read.proofs.PutRows.{both, fold_from, count_by-first}
 use Rattle.script_read.proofs.EditBack.{integer_back, from_range}
 use Rattle.script_read.proofs.NodeBack.{natural_in-back}
@@ -29,9 +30,9 @@ use Rattle.script_read.proofs.StepBack.{size_fits, step_back}
 
 -- ---- lists of values
 
-pub listed_back : (values : List Data) → listed (items_of values) ≡ values
-listed_back [] = refl
-listed_back (value ∷ values) = ap (λ others. value ∷ others) (listed_back values)
+pub item_list-back : (values : List Data) → item_list (items_of values) ≡ values
+item_list-back [] = refl
+item_list-back (value ∷ values) = ap (λ others. value ∷ others) (item_list-back values)
 
 -- where no value is refused, whatever stands before it
 pub none_after : {A : Type 0} (refuse : List Data → Data → Option Pointer) (json : A → Data) (P : A → Type 0)
@@ -211,7 +212,7 @@ actor_formed actor n = rw (name_text actor.name n) refl
 actor_passes : (two : Bool) (ids : List ℕ) (refusals : Refusals) (actor : PlainActor) → IsGoodActor two ids actor → refusals.of_actor (actor_json actor) ≡ None
     → ((step : PlainStep) → IsGoodStep two ids step → in_step refusals (step_json step) ≡ None) → in_actor refusals (actor_json actor) ≡ None
 actor_passes two ids refusals actor g a h =
-    rw (a, listed_back (map step_json actor.steps), none_after (λ before step. in_step refusals step) step_json (IsGoodStep two ids) (λ before step. h step) actor.steps [] g.steps) refl
+    rw (a, item_list-back (map step_json actor.steps), none_after (λ before step. in_step refusals step) step_json (IsGoodStep two ids) (λ before step. h step) actor.steps [] g.steps) refl
 
 -- all actors
 pub actors_pass : (two : Bool) (ids : List ℕ) (refusals : Refusals) (script : PlainScript) → All (IsGoodActor two ids) script.actors
@@ -219,7 +220,7 @@ pub actors_pass : (two : Bool) (ids : List ℕ) (refusals : Refusals) (script : 
     → ((step : PlainStep) → IsGoodStep two ids step → in_step refusals (step_json step) ≡ None) → in_actors refusals (json_of script) ≡ None
 actors_pass two ids refusals script g a h =
     rw (
-      listed_back (map actor_json script.actors),
+      item_list-back (map actor_json script.actors),
       none_after (λ before actor. in_actor refusals actor) actor_json (IsGoodActor two ids) (λ before actor good. actor_passes two ids refusals actor good (a actor good) h) script.actors [] g,
     ) refl
 
@@ -227,7 +228,7 @@ pub actor_back : (two : Bool) (ids : List ℕ) (actor : PlainActor) → IsGoodAc
 actor_back two ids actor g =
     rw (
       name_text actor.name g.name,
-      listed_back (map step_json actor.steps),
+      item_list-back (map step_json actor.steps),
       map_back (step_of two) step_json (IsGoodStep two ids) (λ step s. let small : step.surface < 2 ^ 32 = omega (arith, s.small) in step_back two step small s.range.act s.writable s.fit) actor.steps g.steps,
     ) refl
 
@@ -238,7 +239,7 @@ actors_mount two ids surface id [] e a = refl
 actors_mount two ids surface id (actor ∷ actors) e a =
     let g = All-head (IsGoodActor two ids) actor actors a in
     let here : list_any (fault.is_mount_on surface) (items_at (codes "steps") (actor_json actor)) ≡ mounts_on id actor
-    = rw (listed_back (map step_json actor.steps)) (steps_mount two ids surface id actor.steps e g.steps) in
+    = rw (item_list-back (map step_json actor.steps)) (steps_mount two ids surface id actor.steps e g.steps) in
     count_by-first (λ actor. list_any (fault.is_mount_on surface) (items_at (codes "steps") actor)) (actor_json actor) (map actor_json actors)
     ∙ rw (here, actors_mount two ids surface id actors e (All-tail (IsGoodActor two ids) actor actors a)) (sym (count_by-first (mounts_on id) actor actors))
 
@@ -255,10 +256,10 @@ name_placed two ids earlier actor e g n =
 
 -- ---- counts
 
-steps_counted : (actors : List PlainActor) → fault.step_count (map actor_json actors) ≡ step_count actors
+steps_counted : (actors : List PlainActor) → fault.steps_in_all (map actor_json actors) ≡ step_count actors
 steps_counted [] = refl
 steps_counted (actor ∷ actors) =
-    let here : fault.item_count (codes "steps") (actor_json actor) ≡ length actor.steps = rw (listed_back (map step_json actor.steps)) (length-map actor.steps step_json) in
+    let here : fault.item_count (codes "steps") (actor_json actor) ≡ length actor.steps = rw (item_list-back (map step_json actor.steps)) (length-map actor.steps step_json) in
     fold_from (λ n. n) (map (fault.item_count (codes "steps")) (map actor_json actors)) (0 + fault.item_count (codes "steps") (actor_json actor))
     ∙ omega (arith, here, steps_counted actors)
 
@@ -271,7 +272,7 @@ pub steps_under : (later earlier : List PlainActor) → step_count (earlier ++ l
 steps_under [] earlier h = refl
 steps_under (actor ∷ later) earlier h =
     let so_far : map actor_json earlier ++ actor_json actor ∷ [] ≡ map actor_json (earlier ++ actor ∷ []) = sym (map-append actor_json earlier (actor ∷ [])) in
-    let count : fault.step_count (map actor_json earlier ++ actor_json actor ∷ []) ≡ step_count (earlier ++ actor ∷ []) = ap fault.step_count so_far ∙ steps_counted (earlier ++ actor ∷ []) in
+    let count : fault.steps_in_all (map actor_json earlier ++ actor_json actor ∷ []) ≡ step_count (earlier ++ actor ∷ []) = ap fault.steps_in_all so_far ∙ steps_counted (earlier ++ actor ∷ []) in
     let under : step_count (earlier ++ actor ∷ []) ≤ 2048 =
     omega (arith, h, step_count-both earlier (actor ∷ []), step_count-both earlier (actor ∷ later)) in
     let all : step_count ((earlier ++ actor ∷ []) ++ later) ≤ 2048 = rw (append_assoc earlier (actor ∷ []) later) h in

@@ -10,11 +10,11 @@ use Rattle.shadow_node.specs.declared.NodeEdit.{NodeEdit}
 use Rattle.tree_build.specs.Script.{ScriptForest, no_more, written}
 use Rattle.shadow_node.specs.InRange.{IsTagInRange, AreFieldsInRange, IsEditInRange}
 use Rattle.tree_build.specs.InRange.{AreNodesInRange}
-use Rattle.script_read.specs.Members.{has_form, natural_of, natural_at, integer_in, value_at}
+use Rattle.script_read.specs.Members.{has_form, natural_of, natural_at, integer_in, member_at}
 use Rattle.script_read.specs.Places.{at_member, at_item, refused, in_nodes, in_nodes_from, in_node, in_children}
 use Rattle.script_read.specs.Shape.{has_node_form, misshapen_node}
 use Rattle.script_read.specs.Faults.{is_tag, bad_tag_in}
-use Rattle.script_read.specs.Value.{fields_of, change_of, edit_of, named_label, kept_before, node_before, nodes_of, nodes_in, children_of, children_in}
+use Rattle.script_read.specs.Value.{fields_of, kept_change, edit_of, named_label, kept_before, node_before, nodes_from, nodes_in, children_from, children_among}
 use Rattle.script_read.proofs.Refusals.{none_first, none_later, none_two, none_mapped, unless_holds, passes_there, name_found, form_found}
 use Rattle.script_read.proofs.Ranges.{natural_range}
 use Rattle.script_read.proofs.PropRanges.{props_in, label_in, label_short, change_in}
@@ -28,12 +28,12 @@ tag_in value h =
 -- the tag of a node or a step that has one
 pub written_tag : (value : Data) → bad_tag_in value ≡ None → is_some (get (codes "tag") value) ≡ true → IsTagInRange (natural_at (codes "tag") value)
 written_tag value h there =
-    tag_in (value_at (codes "tag") value)
+    tag_in (member_at (codes "tag") value)
     (passes_there (codes "tag") is_tag value (none_first (refused (codes "tag") is_tag value) (refused (codes "keep") is_tag value ∷ []) h) there)
 
 kept_tag : (value : Data) → bad_tag_in value ≡ None → is_some (get (codes "keep") value) ≡ true → IsTagInRange (natural_at (codes "keep") value)
 kept_tag value h there =
-    tag_in (value_at (codes "keep") value)
+    tag_in (member_at (codes "keep") value)
     (passes_there (codes "keep") is_tag value
     (none_first (refused (codes "keep") is_tag value) [] (none_later (refused (codes "tag") is_tag value) (refused (codes "keep") is_tag value ∷ []) h)) there)
 
@@ -63,8 +63,8 @@ keep_there node h missing =
 fields_in : (two : Bool) (node : Data) → IsTagInRange (natural_at (codes "tag") node) → AreFieldsInRange (fields_of two node)
 fields_in two node tag = record {
   tag = tag;
-  props = props_in two (value_at (codes "props") node);
-  label = label_short (named_label (value_at (codes "props") node)) (label_in (value_at (codes "props") node));
+  props = props_in two (member_at (codes "props") node);
+  label = label_short (named_label (member_at (codes "props") node)) (label_in (member_at (codes "props") node));
 }
 
 edit_given : (two : Bool) (found : Option Data) → IfSome (option_map (edit_of two) found) IsEditInRange
@@ -83,7 +83,7 @@ kept_in tag change (Some children) rest t e c r = (t, e, c, r)
 abbrev node_by : (two : Bool) → Data → Option ScriptForest → ScriptForest → Bool → ScriptForest
 node_by two node children rest there =
     cond there (written (fields_of two node) (unwrap_or children no_more) rest)
-    (kept_before (natural_at (codes "keep") node) (change_of two node) children rest)
+    (kept_before (natural_at (codes "keep") node) (kept_change two node) children rest)
 
 -- a node by itself
 own_in : (two : Bool) (node : Data) (children : Option ScriptForest) (rest : ScriptForest) → misshapen_node node ≡ None → bad_tag_in node ≡ None
@@ -92,7 +92,7 @@ own_in two node children rest m b c r =
     elim (is_some (get (codes "tag") node)) as (λ there. (is_some (get (codes "tag") node) ≡ there) → AreNodesInRange (node_by two node children rest there)) [
       | true ↦ λ e. (fields_in two node (written_tag node b e), children_given children c, r)
       | false ↦ λ e.
-          kept_in (natural_at (codes "keep") node) (change_of two node) children rest (kept_tag node b (keep_there node (unless_holds (has_node_form node) (none_first _ _ m)) e))
+          kept_in (natural_at (codes "keep") node) (kept_change two node) children rest (kept_tag node b (keep_there node (unless_holds (has_node_form node) (none_first _ _ m)) e))
           (edit_given two (get (codes "props") node)) c r
     ] refl
 
@@ -102,7 +102,7 @@ not_a_node node P m f = let clash : true ≡ false = sym (unless_holds (has_node
 
 mutual
   -- a tree in which no node is refused
-  pub nodes_sound : (two : Bool) (tree : Data) → in_nodes misshapen_node tree ≡ None → in_nodes bad_tag_in tree ≡ None → AreNodesInRange (nodes_of two tree)
+  pub nodes_sound : (two : Bool) (tree : Data) → in_nodes misshapen_node tree ≡ None → in_nodes bad_tag_in tree ≡ None → AreNodesInRange (nodes_from two tree)
   nodes_sound two null m b = tt
   nodes_sound two (boolean x) m b = tt
   nodes_sound two (number n) m b = tt
@@ -120,7 +120,7 @@ mutual
       (items_sound two (index + 1) nodes p.1 q.1)
 
   node_sound : (two : Bool) (node : Data) (rest : ScriptForest) → in_node misshapen_node node ≡ None → in_node bad_tag_in node ≡ None → AreNodesInRange rest
-      → AreNodesInRange (node_before two node (children_of two node) rest)
+      → AreNodesInRange (node_before two node (children_from two node) rest)
   node_sound two null rest m b r = not_a_node null _ m refl
   node_sound two (boolean x) rest m b r = not_a_node (boolean x) _ m refl
   node_sound two (number n) rest m b r = not_a_node (number n) _ m refl
@@ -129,17 +129,17 @@ mutual
   node_sound two (object fields) rest m b r =
       let p = none_two (misshapen_node (object fields)) (at_member (codes "children") (in_children misshapen_node fields)) m in
       let q = none_two (bad_tag_in (object fields)) (at_member (codes "children") (in_children bad_tag_in fields)) b in
-      own_in two (object fields) (children_in two fields) rest p.0 q.0
+      own_in two (object fields) (children_among two fields) rest p.0 q.0
       (children_sound two fields (none_mapped _ (in_children misshapen_node fields) p.1) (none_mapped _ (in_children bad_tag_in fields) q.1)) r
 
   children_sound : (two : Bool) (fields : Members) → in_children misshapen_node fields ≡ None → in_children bad_tag_in fields ≡ None
-      → IfSome (children_in two fields) AreNodesInRange
+      → IfSome (children_among two fields) AreNodesInRange
   children_sound two no_members m b = tt
   children_sound two (member name value fields) m b =
       elim (slice_cmp nat_cmp (codes "children") name) as (λ o.
       match_ordering o (in_children misshapen_node fields) (in_nodes misshapen_node value) (in_children misshapen_node fields) ≡ None
       → match_ordering o (in_children bad_tag_in fields) (in_nodes bad_tag_in value) (in_children bad_tag_in fields) ≡ None
-      → IfSome (match_ordering o (children_in two fields) (Some (nodes_of two value)) (children_in two fields)) AreNodesInRange) [
+      → IfSome (match_ordering o (children_among two fields) (Some (nodes_from two value)) (children_among two fields)) AreNodesInRange) [
         | Less ↦ λ p q. children_sound two fields p q
         | Equal ↦ λ p q. nodes_sound two value p q
         | Greater ↦ λ p q. children_sound two fields p q

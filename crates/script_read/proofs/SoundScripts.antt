@@ -10,14 +10,14 @@ use Rattle.std.specs.Ordering.{int_eq}
 use Rattle.serde_json.specs.Data.{Data}
 use Rattle.tree_revision.specs.InRange.{IsSurfaceInRange, IsStepInRange}
 use Rattle.tree_revision.specs.Script.{PlainStep, PlainActor}
-use Rattle.tree_revision.specs.Sound.{is_name, names_of, ids_of, is_mount, mounts_on, HasOneMounter, IsSoundScript, step_count as plain_count, IsWithinCounts}
+use Rattle.tree_revision.specs.Sound.{is_name, names_of, ids_of, is_mount, mounts_on, HasOneMounter, IsSoundScript, step_count, IsWithinCounts}
 use Rattle.script_read.specs.Members.{has_form, natural_of, natural_in, natural_at, integer_in, integer_at, text_at, items_at}
 use Rattle.script_read.specs.Places.{Pointer, Refusals, first_of, unless, at_member, refused, in_member, first_after, in_items, nowhere, in_step, in_actors}
 use Rattle.script_read.specs.Words.{is_version_two}
 use Rattle.script_read.specs.Shape.{is_integer, is_array, not_integers, misshapen, misshapen_surface, misshapen_script}
-use Rattle.script_read.specs.Faults.{is_known_version, item_count, step_count, over_steps, too_many, is_named, bad_name_in, bad_name, is_from, is_surface, bad_size, bad_plan, bad_step, bad_surface, bad_kind, bad_prop, bad_tag_in, bad_tag, is_mount_on, mounter_count, is_shared, two_mounters, is_turn, bad_turn}
+use Rattle.script_read.specs.Faults.{is_known_version, item_count, steps_in_all, over_steps, too_many, is_named, bad_name_in, bad_name, is_from, is_surface, bad_size, bad_plan, bad_step, bad_surface, bad_kind, bad_prop, bad_tag_in, bad_tag, is_mount_on, mounter_count, is_shared, two_mounters, is_turn, bad_turn}
 use Rattle.script_read.specs.Value.{act_of, step_of, actor_of, surface_of, script_of}
-use Rattle.script_read.specs.Reads.{placed, fault_of}
+use Rattle.script_read.specs.Reads.{with_place, fault_of}
 use Rattle.script_read.specs.declared.script.ScriptFault.{ScriptFault}
 use Rattle.script_read.specs.declared.script.ScriptFault.TheVariants.{Shape, Version, TooMany, BadName, BadSurface, BadKind, BadProp, BadTag, TwoMounters, BadTurn}
 use Rattle.script_read.specs.declared.words.Word.TheVariants.{Complete, State, Props, Size, Stop, Hold, Mount, Suspend, Resume}
@@ -346,7 +346,7 @@ turns_in two script h =
 
 -- ---- counts
 
-counts_are : (two : Bool) (actors : List Data) → plain_count (map (actor_of two) actors) ≡ step_count actors
+counts_are : (two : Bool) (actors : List Data) → step_count (map (actor_of two) actors) ≡ steps_in_all actors
 counts_are two [] = refl
 counts_are two (actor ∷ actors) =
     let n = sum_by-cons (λ (n : ℕ). n) (item_count (codes "steps") actor) (map (item_count (codes "steps")) actors) in
@@ -354,11 +354,11 @@ counts_are two (actor ∷ actors) =
     let k = counts_are two actors in
     omega arith
 
-over_none : (before xs : List Data) → step_count before ≤ 2048 → first_after over_steps before xs ≡ None → step_count (before ++ xs) ≤ 2048
+over_none : (before xs : List Data) → steps_in_all before ≤ 2048 → first_after over_steps before xs ≡ None → steps_in_all (before ++ xs) ≤ 2048
 over_none before [] l h = rw (append-nil before) l
 over_none before (x ∷ xs) l h =
-    let t = unless_holds (nat_le (step_count (before ++ x ∷ [])) 2048) (none_mapped _ (unless (nat_le (step_count (before ++ x ∷ [])) 2048)) (after_first over_steps before x xs h)) in
-    rw (← append_assoc before (x ∷ []) xs) (over_none (before ++ x ∷ []) xs (at_most_count (step_count (before ++ x ∷ [])) 2048 t) (after_later over_steps before x xs h))
+    let t = unless_holds (nat_le (steps_in_all (before ++ x ∷ [])) 2048) (none_mapped _ (unless (nat_le (steps_in_all (before ++ x ∷ [])) 2048)) (after_first over_steps before x xs h)) in
+    rw (← append_assoc before (x ∷ []) xs) (over_none (before ++ x ∷ []) xs (at_most_count (steps_in_all (before ++ x ∷ [])) 2048 t) (after_later over_steps before x xs h))
 
 -- where there may be too many, in order
 abbrev many_places : Data → List (Option Pointer)
@@ -390,14 +390,14 @@ counts_in script h =
 -- the faults of a value, in order
 abbrev faults_in : Data → List (Option ScriptFault)
 faults_in script =
-    placed Shape (misshapen_script script)
+    with_place Shape (misshapen_script script)
     ∷ (if is_known_version script then None else Some Version)
-    ∷ placed TooMany (too_many script)
-    ∷ placed BadName (bad_name script)
-    ∷ placed BadSurface (bad_surface script)
-    ∷ placed BadKind (bad_kind script)
-    ∷ placed BadProp (bad_prop script)
-    ∷ placed BadTag (bad_tag script)
+    ∷ with_place TooMany (too_many script)
+    ∷ with_place BadName (bad_name script)
+    ∷ with_place BadSurface (bad_surface script)
+    ∷ with_place BadKind (bad_kind script)
+    ∷ with_place BadProp (bad_prop script)
+    ∷ with_place BadTag (bad_tag script)
     ∷ option_map TwoMounters (two_mounters script)
     ∷ option_map BadTurn (bad_turn script)
     ∷ []

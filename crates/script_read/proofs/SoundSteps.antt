@@ -8,7 +8,7 @@ use Rattle.serde_json.specs.Find.{get}
 use Rattle.tree_settle.specs.Limits.{IsSizeInRange}
 use Rattle.tree_revision.specs.InRange.{IsActInRange, IsStepInRange}
 use Rattle.tree_revision.specs.Sound.{ids_of}
-use Rattle.script_read.specs.Members.{natural_of, natural_at, integer_in, integer_at, value_at, items_at}
+use Rattle.script_read.specs.Members.{natural_of, natural_at, integer_in, integer_at, member_at, items_at}
 use Rattle.script_read.specs.Places.{Refusals, first_of, unless, at_member, refused, in_nodes, in_step, nowhere}
 use Rattle.script_read.specs.Words.{has_members, has_state_form, has_step_form}
 use Rattle.script_read.specs.Shape.{word_in, misshapen_node, misshapen_step, misshapen}
@@ -54,10 +54,10 @@ state_tag step h =
 
 -- what a step of a word does
 act_in : (two : Bool) (word : Word) (step : Data) → has_step_form word step ≡ true → bad_size step ≡ None → bad_tag_in step ≡ None
-    → in_nodes misshapen_node (value_at (codes "tree") step) ≡ None → in_nodes bad_tag_in (value_at (codes "tree") step) ≡ None → IsActInRange (act_of two word step)
-act_in two Complete step f s t m b = nodes_sound two (value_at (codes "tree") step) m b
+    → in_nodes misshapen_node (member_at (codes "tree") step) ≡ None → in_nodes bad_tag_in (member_at (codes "tree") step) ≡ None → IsActInRange (act_of two word step)
+act_in two Complete step f s t m b = nodes_sound two (member_at (codes "tree") step) m b
 act_in two State step f s t m b = written_tag step t (state_tag step f)
-act_in two Props step f s t m b = (written_tag step t (members_tag (codes "props" ∷ []) step f), change_in two (value_at (codes "props") step))
+act_in two Props step f s t m b = (written_tag step t (members_tag (codes "props" ∷ []) step f), change_in two (member_at (codes "props") step))
 act_in two Size step f s t m b = size_in step s
 act_in two Stop step f s t m b = tt
 act_in two Hold step f s t m b = tt
@@ -66,7 +66,7 @@ act_in two Suspend step f s t m b = tt
 act_in two Resume step f s t m b = tt
 
 known_act : (two : Bool) (word : Option Word) (step : Data) → unwrap_or (option_map (λ known. has_step_form known step) word) false ≡ true → bad_size step ≡ None
-    → bad_tag_in step ≡ None → in_nodes misshapen_node (value_at (codes "tree") step) ≡ None → in_nodes bad_tag_in (value_at (codes "tree") step) ≡ None
+    → bad_tag_in step ≡ None → in_nodes misshapen_node (member_at (codes "tree") step) ≡ None → in_nodes bad_tag_in (member_at (codes "tree") step) ≡ None
     → IsActInRange (act_of two (unwrap_or word Hold) step)
 known_act two None step f s t m b = cc
 known_act two (Some word) step f s t m b = act_in two word step f s t m b

@@ -14,7 +14,8 @@ use Rattle.script_read.specs.Shape.{misshapen_step, misshapen_node}
 use Rattle.script_read.specs.Faults.{is_surface, bad_step, no_kind, bad_props_in, bad_tag_in}
 use Rattle.script_read.specs.Value.{step_of}
 use Rattle.script_read.specs.Writing.{natural, op_json, act_json, step_json}
-use Rattle.script_read.specs.Writable.{IsChangeWritable, IsOpWritable, IsActWritable, IsChangeFit, IsOpFit, IsActFit}
+use Rattle.script_read.specs.Writable.{IsChangeWritable, IsOpWritable, IsActWritable}
+use Rattle.script_read.specs.Fits.{IsChangeFit, IsOpFit, IsActFit}
 use Rattle.script_read.proofs.EditBack.{integer_back, from_range}
 use Rattle.script_read.proofs.NodeBack.{natural_in-back, tag_passes, tag_fits, PassNodes, nodes_pass, nodes_formed, nodes_kinded, nodes_tagged, nodes_propped, nodes_back, nodes_unrefused, edit_faultless, edit_of_back}
 
@@ -87,24 +88,24 @@ step_placed script step o s r = act_placed script step.surface step.act o s r
 
 -- the props of a step
 
-op_propped : (two : Bool) (on : ℕ) (op : PlainOp) → IsOpInRange op → IsOpWritable two op → bad_props_in two (op_json on op) ≡ None
-op_propped two on (complete nodes) r w = refl
-op_propped two on (state tag (Set point)) r w = refl
-op_propped two on (state tag (Add by)) r w = refl
-op_propped two on (state tag (SetIf count point)) r w = refl
-op_propped two on (props tag change) r w = rw (edit_faultless two change r.1 w) refl
-op_propped two on (resize size) r w = refl
-op_propped two on stop r w = refl
-op_propped two on suspend r w = refl
-op_propped two on resume r w = refl
+op_propped : (two : Bool) (on : ℕ) (op : PlainOp) → IsOpInRange op → IsOpWritable two op → IsOpFit op → bad_props_in two (op_json on op) ≡ None
+op_propped two on (complete nodes) r w f = refl
+op_propped two on (state tag (Set point)) r w f = refl
+op_propped two on (state tag (Add by)) r w f = refl
+op_propped two on (state tag (SetIf count point)) r w f = refl
+op_propped two on (props tag change) r w f = rw (edit_faultless two change r.1 w f) refl
+op_propped two on (resize size) r w f = refl
+op_propped two on stop r w f = refl
+op_propped two on suspend r w f = refl
+op_propped two on resume r w f = refl
 
-act_propped : (two : Bool) (on : ℕ) (act : PlainAct) → IsActInRange act → IsActWritable two act → bad_props_in two (act_json on act) ≡ None
-act_propped two on (commit op) r w = op_propped two on op r w
-act_propped two on hold r w = refl
-act_propped two on mount r w = refl
+act_propped : (two : Bool) (on : ℕ) (act : PlainAct) → IsActInRange act → IsActWritable two act → IsActFit act → bad_props_in two (act_json on act) ≡ None
+act_propped two on (commit op) r w f = op_propped two on op r w f
+act_propped two on hold r w f = refl
+act_propped two on mount r w f = refl
 
-pub step_propped : (two : Bool) (step : PlainStep) → IsActInRange step.act → IsActWritable two step.act → bad_props_in two (step_json step) ≡ None
-step_propped two step r w = act_propped two step.surface step.act r w
+pub step_propped : (two : Bool) (step : PlainStep) → IsActInRange step.act → IsActWritable two step.act → IsActFit step.act → bad_props_in two (step_json step) ≡ None
+step_propped two step r w f = act_propped two step.surface step.act r w f
 
 -- the tag of a step
 
@@ -196,16 +197,16 @@ act_nodes_tagged (commit resume) r = tt
 act_nodes_tagged hold r = tt
 act_nodes_tagged mount r = tt
 
-pub act_nodes_propped : (two : Bool) (act : PlainAct) → IsActInRange act → IsActWritable two act → PassAct (bad_props_in two) act
-act_nodes_propped two (commit (complete nodes)) r w = nodes_propped two nodes r w
-act_nodes_propped two (commit (state tag change)) r w = tt
-act_nodes_propped two (commit (props tag change)) r w = tt
-act_nodes_propped two (commit (resize size)) r w = tt
-act_nodes_propped two (commit stop) r w = tt
-act_nodes_propped two (commit suspend) r w = tt
-act_nodes_propped two (commit resume) r w = tt
-act_nodes_propped two hold r w = tt
-act_nodes_propped two mount r w = tt
+pub act_nodes_propped : (two : Bool) (act : PlainAct) → IsActInRange act → IsActWritable two act → IsActFit act → PassAct (bad_props_in two) act
+act_nodes_propped two (commit (complete nodes)) r w f = nodes_propped two nodes r w f
+act_nodes_propped two (commit (state tag change)) r w f = tt
+act_nodes_propped two (commit (props tag change)) r w f = tt
+act_nodes_propped two (commit (resize size)) r w f = tt
+act_nodes_propped two (commit stop) r w f = tt
+act_nodes_propped two (commit suspend) r w f = tt
+act_nodes_propped two (commit resume) r w f = tt
+act_nodes_propped two hold r w f = tt
+act_nodes_propped two mount r w f = tt
 
 pub act_nodes_unrefused : (act : PlainAct) → PassAct (λ value. None) act
 act_nodes_unrefused (commit (complete nodes)) = nodes_unrefused nodes
@@ -229,11 +230,11 @@ state_back two on tag (SetIf count point) o t w f =
 
 op_back : (two : Bool) (on : ℕ) (op : PlainOp) → on < 2 ^ 32 → IsOpInRange op → IsOpWritable two op → IsOpFit op
     → step_of two (op_json on op) ≡ record { surface = on; act = commit op }
-op_back two on (complete nodes) o r w f = rw (natural_in-back on o, nodes_back two nodes r w) refl
+op_back two on (complete nodes) o r w f = rw (natural_in-back on o, nodes_back two nodes r w f) refl
 op_back two on (state tag change) o r w f = let t : tag < 2 ^ 32 = omega (arith, r.high) in state_back two on tag change o t w f
 op_back two on (props tag change) o r w f =
     let t : tag < 2 ^ 32 = omega (arith, r.0.high) in
-    ap (λ edit. record { surface = natural_in (natural on); act = commit (props (natural_in (natural tag)) edit) }) (edit_of_back two change r.1 w)
+    ap (λ edit. record { surface = natural_in (natural on); act = commit (props (natural_in (natural tag)) edit) }) (edit_of_back two change r.1 w f)
     ∙ rw (natural_in-back on o, natural_in-back tag t) refl
 op_back two on (resize size) o r w f =
     rw (natural_in-back on o, integer_back size.width (size_fits size.width r.width_high), integer_back size.height (size_fits size.height r.height_high)) refl

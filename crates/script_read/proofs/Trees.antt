@@ -10,7 +10,7 @@ use Rattle.serde_json.specs.Data.{Data, null, boolean, number, string, array, ob
 use Rattle.serde_json.specs.Find.{get, get_member}
 use Rattle.serde_json.specs.View.{view}
 use Rattle.serde_json.specs.declared.value.Value.{Value}
-use Rattle.script_read.specs.Members.{listed, items_in}
+use Rattle.script_read.specs.Members.{item_list, items_in}
 use Rattle.script_read.specs.Places.{Pointer, first_of, at_member, at_item, in_member, first_after, in_nodes, in_nodes_from, in_node, in_children}
 use Rattle.script_read.proofs.Lists.{first_none}
 
@@ -32,7 +32,7 @@ below k (string s) d h = cc
 below k (array ds) d h = cc
 below k (object ms) d h = omega (arith, member_below k ms d h)
 
-listed_depth : (ds : Items) (i : ℕ) (d : Data) → i < length (listed ds) → d ≡ get_or (listed ds) i d → depth d ≤ items_depth ds
+listed_depth : (ds : Items) (i : ℕ) (d : Data) → i < length (item_list ds) → d ≡ get_or (item_list ds) i d → depth d ≤ items_depth ds
 listed_depth no_items i d h e = absurd (omega arith)
 listed_depth (item x ds) zero d h e = let p : depth d ≡ depth x = ap depth e in omega arith
 listed_depth (item x ds) (suc i) d h e = omega (arith, listed_depth ds i d (omega arith) e)
@@ -45,12 +45,12 @@ item_below (number n) xs i x m h e = absurd (omega (arith, simp length-map at (a
 item_below (string s) xs i x m h e = absurd (omega (arith, simp length-map at (ap length m)))
 item_below (object ms) xs i x m h e = absurd (omega (arith, simp length-map at (ap length m)))
 item_below (array ds) xs i x m h e =
-    let g : view x ≡ get_or (listed ds) i (view x) = ap view e ∙ sym (get_or-map view xs i x) ∙ ap (λ l. get_or l i (view x)) m in
-    let k : i < length (listed ds) = rw (← m, length-map xs view) h in
+    let g : view x ≡ get_or (item_list ds) i (view x) = ap view e ∙ sym (get_or-map view xs i x) ∙ ap (λ l. get_or l i (view x)) m in
+    let k : i < length (item_list ds) = rw (← m, length-map xs view) h in
     omega (arith, listed_depth ds i (view x) k g)
 
 nodes_from : (refuse : Data → Option Pointer) (before : List Data) (ds : Items)
-    → in_nodes_from refuse (length before) ds ≡ first_after (λ before node. in_node refuse node) before (listed ds)
+    → in_nodes_from refuse (length before) ds ≡ first_after (λ before node. in_node refuse node) before (item_list ds)
 nodes_from refuse before no_items = refl
 nodes_from refuse before (item d ds) =
     let n : length before + 1 ≡ length (before ++ d ∷ []) = omega (arith, length-append before (d ∷ [])) in

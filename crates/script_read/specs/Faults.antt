@@ -20,12 +20,12 @@ abbrev pub item_count : List ℕ → Data → ℕ
 item_count name value = length (items_at name value)
 
 -- how many steps some actors have in all
-abbrev pub step_count : List Data → ℕ
-step_count actors = sum (map (item_count (codes "steps")) actors)
+abbrev pub steps_in_all : List Data → ℕ
+steps_in_all actors = sum (map (item_count (codes "steps")) actors)
 
 -- an actor is the first at whose end the steps so far are more than 2,048
 abbrev pub over_steps : List Data → Data → Option Pointer
-over_steps before actor = at_member (codes "steps") (unless (nat_le (step_count (before ++ actor ∷ [])) 2048))
+over_steps before actor = at_member (codes "steps") (unless (nat_le (steps_in_all (before ++ actor ∷ [])) 2048))
 
 -- 8 surfaces, 16 actors, 2,048 steps and 65,536 turns at most
 abbrev pub too_many : Data → Option Pointer

@@ -10,3 +10,4 @@ pub mod Reads
 pub mod Making
 pub mod Writing
 pub mod Writable
+pub mod Fits

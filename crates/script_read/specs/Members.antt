@@ -4,9 +4,9 @@ use Rattle.serde_json.specs.Data.{Data, null, Items, no_items, item, Members, no
 use Rattle.serde_json.specs.Find.{get, as_number, as_i64, as_str, as_array, as_object}
 
 -- items as a list
-abbrev pub listed : Items → List Data
-listed no_items = []
-listed (item value values) = value ∷ listed values
+abbrev pub item_list : Items → List Data
+item_list no_items = []
+item_list (item value values) = value ∷ item_list values
 
 -- how many members there are
 abbrev pub member_count : Members → ℕ
@@ -46,27 +46,27 @@ text_in value = unwrap_or (as_str value) []
 
 -- the items of a value
 abbrev pub items_in : Data → List Data
-items_in value = unwrap_or (option_map listed (as_array value)) []
+items_in value = unwrap_or (option_map item_list (as_array value)) []
 
 -- the value of a member
-abbrev pub value_at : List ℕ → Data → Data
-value_at name value = unwrap_or (get name value) null
+abbrev pub member_at : List ℕ → Data → Data
+member_at name value = unwrap_or (get name value) null
 
 -- the integer of a member
 abbrev pub integer_at : List ℕ → Data → ℤ
-integer_at name value = integer_in (value_at name value)
+integer_at name value = integer_in (member_at name value)
 
 -- the number below 2^32 of a member
 abbrev pub natural_at : List ℕ → Data → ℕ
-natural_at name value = natural_in (value_at name value)
+natural_at name value = natural_in (member_at name value)
 
 -- the text of a member
 abbrev pub text_at : List ℕ → Data → List ℕ
-text_at name value = text_in (value_at name value)
+text_at name value = text_in (member_at name value)
 
 -- the items of a member
 abbrev pub items_at : List ℕ → Data → List Data
-items_at name value = items_in (value_at name value)
+items_at name value = items_in (member_at name value)
 
 -- the item of that number
 abbrev pub item_in : ℕ → Data → Data

@@ -17,25 +17,25 @@ use Rattle.script_read.specs.declared.script.ScriptRefusal.{ScriptRefusal}
 use Rattle.script_read.specs.declared.script.ScriptRefusal.TheVariants.{Fault, Memory}
 
 -- the place of a pointer from the whole script, whose own place is "/"
-abbrev pub place_of : Pointer → Place
-place_of [] = record { text = codes "/" }
-place_of (byte ∷ bytes) = record { text = byte ∷ bytes }
+abbrev pub place_at : Pointer → Place
+place_at [] = record { text = codes "/" }
+place_at (byte ∷ bytes) = record { text = byte ∷ bytes }
 
 -- a fault at a place, where there is one
-abbrev pub placed : (Place → ScriptFault) → Option Pointer → Option ScriptFault
-placed fault pointer = option_map (λ found. fault (place_of found)) pointer
+abbrev pub with_place : (Place → ScriptFault) → Option Pointer → Option ScriptFault
+with_place fault pointer = option_map (λ found. fault (place_at found)) pointer
 
 -- the fault of a JSON value with the smallest number
 abbrev pub fault_of : Data → Option ScriptFault
 fault_of script = first_of (
-    placed Shape (misshapen_script script) ∷
+    with_place Shape (misshapen_script script) ∷
     (if is_known_version script then None else Some Version) ∷
-    placed TooMany (too_many script) ∷
-    placed BadName (bad_name script) ∷
-    placed BadSurface (bad_surface script) ∷
-    placed BadKind (bad_kind script) ∷
-    placed BadProp (bad_prop script) ∷
-    placed BadTag (bad_tag script) ∷
+    with_place TooMany (too_many script) ∷
+    with_place BadName (bad_name script) ∷
+    with_place BadSurface (bad_surface script) ∷
+    with_place BadKind (bad_kind script) ∷
+    with_place BadProp (bad_prop script) ∷
+    with_place BadTag (bad_tag script) ∷
     option_map TwoMounters (two_mounters script) ∷
     option_map BadTurn (bad_turn script) ∷
     []

@@ -4,7 +4,7 @@ use Rattle.serde_json.specs.Data.{Data}
 use Rattle.serde_json.specs.Find.{get, as_str, as_array, as_object}
 use Rattle.script_read.specs.Members.{has_form, integer_of, integer_in, items_in, item_in, text_at}
 use Rattle.script_read.specs.Places.{Pointer, Refusals, unless, at_item, first_of, in_member, refused, first_after, in_items, in_actors}
-use Rattle.script_read.specs.Words.{is_version_two, word_of, has_step_form}
+use Rattle.script_read.specs.Words.{is_version_two, step_word, has_step_form}
 use Rattle.script_read.specs.declared.words.Word.{Word}
 
 abbrev pub is_integer : Data → Bool
@@ -59,7 +59,7 @@ misshapen_node node = first_of (
 
 -- the word of a step; None where it is unknown or no text
 abbrev pub word_in : (two : Bool) → Data → Option Word
-word_in two step = word_of two (text_at (codes "do") step)
+word_in two step = step_word two (text_at (codes "do") step)
 
 -- what a step changes, whatever its word: the members after its surface and its tag
 abbrev pub misshapen_change : Data → Option Pointer

@@ -20,7 +20,7 @@ use Rattle.shadow_node.specs.Fields.{NodeFields}
 use Rattle.tree_build.specs.Script.{ScriptForest, no_more, written, kept, kept_with}
 use Rattle.tree_revision.specs.Records.{complete, state, props, resize, stop, suspend, resume}
 use Rattle.tree_revision.specs.Script.{PlainAct, commit, hold, mount, PlainStep, PlainActor, PlainSurface, PlainScript}
-use Rattle.script_read.specs.Members.{integer_in, natural_in, value_at, integer_at, natural_at, text_at, items_at, item_in}
+use Rattle.script_read.specs.Members.{integer_in, natural_in, member_at, integer_at, natural_at, text_at, items_at, item_in}
 use Rattle.script_read.specs.Words.{is_version_two}
 use Rattle.script_read.specs.Shape.{word_in}
 use Rattle.script_read.specs.Faults.{taken, label_of}
@@ -48,9 +48,9 @@ abbrev pub edits_of : (two : Bool) → Data → EditList
 edits_of two value = if two then named_rows v2_rules value else widened_edit (named_rows v1_rules value)
 
 -- an edit with what is said of a row, where something is said
-abbrev pub marked : EditList → ℕ → Option (Option ℤ) → EditList
-marked edit row None = edit
-marked edit row (Some value) = slice_set edit row (Some value)
+abbrev pub edit_with : EditList → ℕ → Option (Option ℤ) → EditList
+edit_with edit row None = edit
+edit_with edit row (Some value) = slice_set edit row (Some value)
 
 -- the label that an object names
 abbrev pub named_label : Data → Option (List ℕ)
@@ -69,13 +69,13 @@ abbrev pub fields_of : (two : Bool) → Data → NodeFields
 fields_of two node = record {
   tag = natural_at (codes "tag") node;
   kind = kind_at node;
-  props = props_of two (value_at (codes "props") node);
-  label = unwrap_or (named_label (value_at (codes "props") node)) [];
+  props = props_of two (member_at (codes "props") node);
+  label = unwrap_or (named_label (member_at (codes "props") node)) [];
 }
 
 -- the change of a kept node, where it is given props
-abbrev pub change_of : (two : Bool) → Data → Option NodeEdit
-change_of two node = option_map (edit_of two) (get (codes "props") node)
+abbrev pub kept_change : (two : Bool) → Data → Option NodeEdit
+kept_change two node = option_map (edit_of two) (get (codes "props") node)
 
 -- a kept node in front of its siblings, with children of its own where it is given some
 abbrev pub kept_before : ℕ → Option NodeEdit → Option ScriptForest → ScriptForest → ScriptForest
@@ -86,52 +86,52 @@ kept_before tag change (Some children) siblings = kept_with tag change children 
 abbrev pub node_before : (two : Bool) → Data → Option ScriptForest → ScriptForest → ScriptForest
 node_before two node children siblings =
     if is_some (get (codes "tag") node) then written (fields_of two node) (unwrap_or children no_more) siblings
-    else kept_before (natural_at (codes "keep") node) (change_of two node) children siblings
+    else kept_before (natural_at (codes "keep") node) (kept_change two node) children siblings
 
 abbrev mutual
   -- the nodes of a tree
-  pub nodes_of : (two : Bool) → Data → ScriptForest
-  nodes_of two null = no_more
-  nodes_of two (boolean b) = no_more
-  nodes_of two (number n) = no_more
-  nodes_of two (string s) = no_more
-  nodes_of two (array nodes) = nodes_in two nodes
-  nodes_of two (object fields) = no_more
+  pub nodes_from : (two : Bool) → Data → ScriptForest
+  nodes_from two null = no_more
+  nodes_from two (boolean b) = no_more
+  nodes_from two (number n) = no_more
+  nodes_from two (string s) = no_more
+  nodes_from two (array nodes) = nodes_in two nodes
+  nodes_from two (object fields) = no_more
 
   pub nodes_in : (two : Bool) → Items → ScriptForest
   nodes_in two no_items = no_more
-  nodes_in two (item node nodes) = node_before two node (children_of two node) (nodes_in two nodes)
+  nodes_in two (item node nodes) = node_before two node (children_from two node) (nodes_in two nodes)
 
   -- the children of a node, where it is given some
-  pub children_of : (two : Bool) → Data → Option ScriptForest
-  children_of two null = None
-  children_of two (boolean b) = None
-  children_of two (number n) = None
-  children_of two (string s) = None
-  children_of two (array values) = None
-  children_of two (object fields) = children_in two fields
+  pub children_from : (two : Bool) → Data → Option ScriptForest
+  children_from two null = None
+  children_from two (boolean b) = None
+  children_from two (number n) = None
+  children_from two (string s) = None
+  children_from two (array values) = None
+  children_from two (object fields) = children_among two fields
 
-  pub children_in : (two : Bool) → Members → Option ScriptForest
-  children_in two no_members = None
-  children_in two (member name value fields) =
-      match_ordering (slice_cmp nat_cmp (codes "children") name) (children_in two fields) (Some (nodes_of two value)) (children_in two fields)
+  pub children_among : (two : Bool) → Members → Option ScriptForest
+  children_among two no_members = None
+  children_among two (member name value fields) =
+      match_ordering (slice_cmp nat_cmp (codes "children") name) (children_among two fields) (Some (nodes_from two value)) (children_among two fields)
 
 -- a point from two items, the first at that number
 abbrev pub point_from : ℕ → Data → Point
 point_from index value = record { x = integer_in (item_in index value); y = integer_in (item_in (index + 1) value) }
 
 -- a count that is not negative
-abbrev pub count_of : ℤ → ℕ
-count_of (pos n) = n
-count_of (negsuc n) = 0
+abbrev pub at_least_zero : ℤ → ℕ
+at_least_zero (pos n) = n
+at_least_zero (negsuc n) = 0
 
 -- the change of a state step
 abbrev pub state_change_of : Data → StateChange
 state_change_of step =
-    if is_some (get (codes "set") step) then Set (point_from 0 (value_at (codes "set") step))
+    if is_some (get (codes "set") step) then Set (point_from 0 (member_at (codes "set") step))
     else
-    (if is_some (get (codes "add") step) then Add (point_from 0 (value_at (codes "add") step))
-    else SetIf (count_of (integer_in (item_in 0 (value_at (codes "set_if") step)))) (point_from 1 (value_at (codes "set_if") step)))
+    (if is_some (get (codes "add") step) then Add (point_from 0 (member_at (codes "add") step))
+    else SetIf (at_least_zero (integer_in (item_in 0 (member_at (codes "set_if") step)))) (point_from 1 (member_at (codes "set_if") step)))
 
 -- a width and a height
 abbrev pub size_of : Data → Area
@@ -139,9 +139,9 @@ size_of value = record { width = integer_at (codes "width") value; height = inte
 
 -- what a step of that word does
 abbrev pub act_of : (two : Bool) → Word → Data → PlainAct
-act_of two word.Complete step = commit (complete (nodes_of two (value_at (codes "tree") step)))
+act_of two word.Complete step = commit (complete (nodes_from two (member_at (codes "tree") step)))
 act_of two word.State step = commit (state (natural_at (codes "tag") step) (state_change_of step))
-act_of two word.Props step = commit (props (natural_at (codes "tag") step) (edit_of two (value_at (codes "props") step)))
+act_of two word.Props step = commit (props (natural_at (codes "tag") step) (edit_of two (member_at (codes "props") step)))
 act_of two word.Size step = commit (resize (size_of step))
 act_of two word.Stop step = commit stop
 act_of two word.Hold step = hold

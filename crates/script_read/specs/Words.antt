@@ -10,8 +10,8 @@ abbrev pub is_version_two : Data → Bool
 is_version_two script = nat_eq (natural_at (codes "version") script) 2
 
 -- the step's word that a text is; version 2 has two words of its own
-abbrev pub word_of : (two : Bool) → List ℕ → Option Word
-word_of two text =
+abbrev pub step_word : (two : Bool) → List ℕ → Option Word
+step_word two text =
     cond (bytes_eq text (codes "complete")) (Some Complete)
     (cond (bytes_eq text (codes "state")) (Some State)
     (cond (bytes_eq text (codes "props")) (Some Props)

@@ -1,7 +1,5 @@
 -- Which scripts can be written as texts that read back.
-use Rattle.std.specs.Prelude.{◌<◌, ◌^◌, ◌≡◌, drop, All, Bool, false, IsTrue, ◌||◌, nat_eq, IfSome, replicate, None, pos, ◌<ℤ◌}
-use Rattle.std.specs.Str.{is_utf8}
-use Rattle.shadow_frame.specs.declared.Point.{Point}
+use Rattle.std.specs.Prelude.{◌<◌, ◌^◌, ◌≡◌, drop, All, Bool, false, IsTrue, ◌||◌, nat_eq, IfSome, replicate, None}
 use Rattle.native_state.specs.declared.StateChange.{StateChange}
 use Rattle.native_state.specs.declared.StateChange.TheVariants.{Set, Add, SetIf}
 use Rattle.prop_table.specs.Table.{v2_rules, start_of}
@@ -12,14 +10,12 @@ use Rattle.tree_revision.specs.Records.{PlainOp, complete, state, props, resize,
 use Rattle.tree_revision.specs.Script.{PlainAct, commit, hold, mount, PlainScript}
 use Rattle.tree_revision.specs.Sound.{IsSoundScript, IsWithinCounts}
 
--- what a script of version 1 or 2 says of a node: the label is a text, and version 1 leaves the rows that version 2 adds at their start
+-- what a script of version 1 or 2 says of a node: version 1 leaves the rows that version 2 adds at their start
 pub record AreFieldsWritable (two : Bool) (fields : NodeFields) : Type 0 where
-  pub label : IsTrue (is_utf8 fields.label)
   pub rows : two ≡ false → drop 16 fields.props ≡ start_of (drop 16 v2_rules)
 
--- a change of a node: the label is a text, and version 1 does not name the rows that version 2 adds
+-- a change of a node: version 1 does not name the rows that version 2 adds
 pub record IsEditWritable (two : Bool) (edit : NodeEdit) : Type 0 where
-  pub label : IfSome edit.label (λ label. IsTrue (is_utf8 label))
   pub rows : two ≡ false → drop 16 edit.rows ≡ replicate 6 None
 
 -- the nodes of a tree
@@ -36,33 +32,6 @@ abbrev pub IsChangeWritable : StateChange → Type 0
 IsChangeWritable (Set point) = Unit {0}
 IsChangeWritable (Add by) = Unit {0}
 IsChangeWritable (SetIf count point) = count < 2 ^ 63
-
--- the coordinates of a point are below 2^63, as all numbers of 64 bits are
-pub record IsPointFit (point : Point) : Type 0 where
-  pub x : point.x <ℤ pos (2 ^ 63)
-  pub y : point.y <ℤ pos (2 ^ 63)
-
--- the points of a change of state
-abbrev pub IsChangeFit : StateChange → Type 0
-IsChangeFit (Set point) = IsPointFit point
-IsChangeFit (Add by) = IsPointFit by
-IsChangeFit (SetIf count point) = IsPointFit point
-
--- the points of a change that a commit makes
-abbrev pub IsOpFit : PlainOp → Type 0
-IsOpFit (complete nodes) = Unit {0}
-IsOpFit (state tag change) = IsChangeFit change
-IsOpFit (props tag change) = Unit {0}
-IsOpFit (resize size) = Unit {0}
-IsOpFit stop = Unit {0}
-IsOpFit suspend = Unit {0}
-IsOpFit resume = Unit {0}
-
--- the points of what a step does
-abbrev pub IsActFit : PlainAct → Type 0
-IsActFit (commit op) = IsOpFit op
-IsActFit hold = Unit {0}
-IsActFit mount = Unit {0}
 
 -- a change that a commit makes: version 1 does not suspend or resume
 abbrev pub IsOpWritable : (two : Bool) → PlainOp → Type 0

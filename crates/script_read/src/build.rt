@@ -6,10 +6,10 @@ ghost use Rattle.script_read.specs.Plain.{plain_act, plain_step, plain_actor, pl
 ghost use Rattle.script_read.specs.Members.{natural_in as natural_in_of};
 ghost use Rattle.tree_revision.specs.Records.{plain_op};
 ghost use Rattle.tree_revision.specs.Script.{commit};
-ghost use Rattle.script_read.specs.Value.{count_of as count_of_of, point_from as point_from_of, state_change_of, size_of as size_of_of, act_of, step_of, actor_of, surface_of, script_of};
+ghost use Rattle.script_read.specs.Value.{at_least_zero as at_least_zero_of, point_from as point_from_of, state_change_of, size_of as size_of_of, act_of, step_of, actor_of, surface_of, script_of};
 
 use crate::members::{
-    integer_at, item_integer, items_at, natural_at, natural_in, text_at, value_at,
+    integer_at, item_integer, items_at, member_at, natural_at, natural_in, text_at,
 };
 use crate::nodes::read_nodes;
 use crate::props::read_edit;
@@ -35,8 +35,8 @@ fn point_from(value: &Value, index: usize) -> Point
 }
 
 /// A count that is not negative.
-fn count_of(count: i64) -> u64
-    ensures { result ≡ count_of_of count }
+fn at_least_zero(count: i64) -> u64
+    ensures { result ≡ at_least_zero_of count }
 {
     if count < 0 { 0 } else { count as u64 }
 }
@@ -56,9 +56,9 @@ fn read_state_change(step: &Value) -> StateChange
         };
     }
     let none = Value::Null;
-    let numbers = value_at(step, "set_if", &none);
+    let numbers = member_at(step, "set_if", &none);
     StateChange::SetIf {
-        count: count_of(item_integer(numbers, 0)),
+        count: at_least_zero(item_integer(numbers, 0)),
         point: point_from(numbers, 1),
     }
 }
@@ -90,7 +90,7 @@ fn read_act(alloc: Global, two: bool, word: Word, step: &Value) -> Result<Act, A
     match word {
         Word::Complete => {
             let none = Value::Null;
-            let nodes = read_nodes(alloc, two, value_at(step, "tree", &none))?;
+            let nodes = read_nodes(alloc, two, member_at(step, "tree", &none))?;
             commit_of(alloc, Op::Complete { nodes })
         }
         Word::State => {
@@ -101,7 +101,7 @@ fn read_act(alloc: Global, two: bool, word: Word, step: &Value) -> Result<Act, A
         Word::Props => {
             let tag = natural_at(step, "tag");
             let none = Value::Null;
-            let change = read_edit(alloc, two, value_at(step, "props", &none))?;
+            let change = read_edit(alloc, two, member_at(step, "props", &none))?;
             commit_of(alloc, Op::Props { tag, change })
         }
         Word::Size => commit_of(
@@ -194,7 +194,7 @@ fn read_turns(alloc: Global, list: &[Value]) -> Result<Items<u32>, AllocError>
 }
 
 /// The script of a value.
-pub(crate) fn build(alloc: Global, script: &Value) -> Result<Script, AllocError>
+pub(crate) fn build_script(alloc: Global, script: &Value) -> Result<Script, AllocError>
     ensures { IfOk result (λ made. plain_script made ≡ script_of (view script.now)) }
 {
     let two = is_version_two(script);

@@ -116,7 +116,7 @@ fn first_nodes(alloc: Global) -> Result<Items<ScriptNode>, AllocError>
 }
 
 /// The node of that tag, as it is.
-fn kept_node(tag: u32) -> ScriptNode
+fn unchanged_node(tag: u32) -> ScriptNode
     ensures { in_front result ≡ kept tag None }
 {
     ScriptNode::Kept {
@@ -146,7 +146,7 @@ fn kept_views(alloc: Global, first: u32) -> Result<Items<ScriptNode>, AllocError
 {
     let mut nodes = Items::new(alloc);
     for i in 0..VIEWS {
-        nodes.push(kept_node(100 + (first + i) % VIEWS))?;
+        nodes.push(unchanged_node(100 + (first + i) % VIEWS))?;
     }
     Ok(nodes)
 }
@@ -163,7 +163,7 @@ fn turned_nodes(alloc: Global, first: u32) -> Result<Items<ScriptNode>, AllocErr
 }
 
 /// A step that commits.
-fn commit(alloc: Global, surface: u32, op: Op) -> Result<Step, AllocError>
+fn commit_step(alloc: Global, surface: u32, op: Op) -> Result<Step, AllocError>
     ensures { IfOk result (λ step. plain_step step ≡ commit_on surface (plain_op op)) }
 {
     let op = Arc::new(alloc, op)?;
@@ -183,7 +183,7 @@ fn colored(alloc: Global, surface: u32, draws: &mut Draws) -> Result<Step, Alloc
         unreachable!()
     };
     let change = NodeEdit { rows, label: None };
-    commit(alloc, surface, Op::Props { tag, change })
+    commit_step(alloc, surface, Op::Props { tag, change })
 }
 
 /// The views turned round, from a view that is drawn.
@@ -191,7 +191,7 @@ fn turned(alloc: Global, surface: u32, draws: &mut Draws) -> Result<Step, AllocE
     ensures { IfOk result (λ step. IsDrawn (turned_of surface draws.old.number) (plain_step step) draws.new.number) }
 {
     let nodes = turned_nodes(alloc, draws.below(VIEWS))?;
-    commit(alloc, surface, Op::Complete { nodes })
+    commit_step(alloc, surface, Op::Complete { nodes })
 }
 
 /// Another size of the surface; the width is drawn first.
@@ -201,7 +201,7 @@ fn resized(alloc: Global, surface: u32, draws: &mut Draws) -> Result<Step, Alloc
     let width = 300 + draws.below(200) as i64;
     let height = 300 + draws.below(200) as i64;
     let size = Size { width, height };
-    commit(alloc, surface, Op::Size { size })
+    commit_step(alloc, surface, Op::Size { size })
 }
 
 /// One of these three, which is drawn.
@@ -222,7 +222,7 @@ fn tree_steps(alloc: Global, surface: u32, draws: &mut Draws) -> Result<Items<St
 {
     let nodes = first_nodes(alloc)?;
     let mut steps = Items::new(alloc);
-    steps.push(commit(alloc, surface, Op::Complete { nodes })?)?;
+    steps.push(commit_step(alloc, surface, Op::Complete { nodes })?)?;
     for _ in 0..LATER_STEPS {
         steps.push(later_step(alloc, surface, draws)?)?;
     }
@@ -236,7 +236,7 @@ fn scroll_step(alloc: Global, surface: u32, draws: &mut Draws) -> Result<Step, A
     let y = draws.below(21) as i64 - 10;
     let by = Point { x: 0, y };
     let change = StateChange::Add { by };
-    commit(alloc, surface, Op::State { tag: 2, change })
+    commit_step(alloc, surface, Op::State { tag: 2, change })
 }
 
 /// 100 such steps.
@@ -267,7 +267,7 @@ fn mount_steps(alloc: Global) -> Result<Items<Step>, AllocError>
 
 /// 2,000 turns of the five actors.
 #[tactic(auto, using(crate::proofs::Chains::none_drawn))]
-fn turns(alloc: Global, draws: &mut Draws) -> Result<Items<u32>, AllocError>
+fn drawn_turns(alloc: Global, draws: &mut Draws) -> Result<Items<u32>, AllocError>
     ensures { IfOk result (λ turns. IsDrawn (drawn_list (drawn_below 5) 2000 draws.old.number) turns draws.new.number) }
 {
     let mut turns = Items::new(alloc);
@@ -325,7 +325,7 @@ pub fn make_script(alloc: Global, number: u32) -> Result<Script, AllocError>
     let mut draws = Draws::start(number);
     let surfaces = surfaces(alloc)?;
     let actors = actors(alloc, &mut draws)?;
-    let turns = turns(alloc, &mut draws)?;
+    let turns = drawn_turns(alloc, &mut draws)?;
     Ok(Script {
         version: 1,
         surfaces,

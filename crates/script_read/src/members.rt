@@ -4,7 +4,7 @@
 ghost use Rattle.std.specs.Prelude.{◌≡◌, map};
 ghost use Rattle.serde_json.specs.Data.{null};
 ghost use Rattle.serde_json.specs.View.{view};
-ghost use Rattle.script_read.specs.Members.{names_found as names_found_of, has_form as has_form_of, integer_in as integer_in_of, natural_of as natural_of_of, natural_in as natural_in_of, text_in as text_in_of, items_in as items_in_of, value_at as value_at_of, integer_at as integer_at_of, natural_at as natural_at_of, text_at as text_at_of, items_at as items_at_of, item_in as item_in_of};
+ghost use Rattle.script_read.specs.Members.{names_found as names_found_of, has_form as has_form_of, integer_in as integer_in_of, natural_of as natural_of_of, natural_in as natural_in_of, text_in as text_in_of, items_in as items_in_of, member_at as member_at_of, integer_at as integer_at_of, natural_at as natural_at_of, text_at as text_at_of, items_at as items_at_of, item_in as item_in_of};
 
 use serde_json::Value;
 
@@ -73,9 +73,9 @@ pub(crate) fn items_in(value: &Value) -> &[Value]
 }
 
 /// The value of a member, or that null where the member is missing.
-pub(crate) fn value_at<'a>(value: &'a Value, name: &str, missing: &'a Value) -> &'a Value
+pub(crate) fn member_at<'a>(value: &'a Value, name: &str, missing: &'a Value) -> &'a Value
     requires { view missing.now ≡ null }
-    ensures { view result.now ≡ value_at_of name.now (view value.now) }
+    ensures { view result.now ≡ member_at_of name.now (view value.now) }
 {
     match value.get(name) {
         Some(found) => found,

@@ -5,9 +5,9 @@ ghost use Rattle.serde_json.specs.View.{view};
 ghost use Rattle.std.specs.Prelude.{codes};
 ghost use Rattle.script_read.specs.Members.{natural_at as natural_at_of};
 ghost use Rattle.tree_build.specs.Script.{ScriptForest, written, in_front, script_forest};
-ghost use Rattle.script_read.specs.Value.{kind_at as kind_at_of, change_of, fields_of, kept_before, node_before, nodes_of, children_of};
+ghost use Rattle.script_read.specs.Value.{kind_at as kind_at_of, kept_change, fields_of, kept_before, node_before, nodes_from, children_from};
 
-use crate::members::{items_in, natural_at, text_at, value_at};
+use crate::members::{items_in, member_at, natural_at, text_at};
 use crate::props::{named_label, read_edit, read_props};
 use prop_table::Label;
 use serde_json::Value;
@@ -26,7 +26,7 @@ fn kind_at(node: &Value) -> Kind
 
 /// The change of a kept node, where it is given props.
 fn read_change(alloc: Global, two: bool, node: &Value) -> Result<Option<NodeEdit>, AllocError>
-    ensures { IfOk result (λ change. change ≡ change_of two (view node.now)) }
+    ensures { IfOk result (λ change. change ≡ kept_change two (view node.now)) }
 {
     match node.get("props") {
         Some(props) => Ok(Some(read_edit(alloc, two, props)?)),
@@ -45,7 +45,7 @@ fn read_written(
     ensures { IfOk result (λ made. (rest : ScriptForest) → in_front made rest ≡ written (fields_of two (view node.now)) (script_forest children) rest) }
 {
     let none = Value::Null;
-    let props = value_at(node, "props", &none);
+    let props = member_at(node, "props", &none);
     let label = match named_label(alloc, props)? {
         Some(label) => label,
         None => Label::none(),
@@ -67,7 +67,7 @@ fn read_kept(
     node: &Value,
     children: Option<Items<ScriptNode>>,
 ) -> Result<ScriptNode, AllocError>
-    ensures { IfOk result (λ made. (rest : ScriptForest) → in_front made rest ≡ kept_before (natural_at_of (codes "keep") (view node.now)) (change_of two (view node.now)) (option_map script_forest children) rest) }
+    ensures { IfOk result (λ made. (rest : ScriptForest) → in_front made rest ≡ kept_before (natural_at_of (codes "keep") (view node.now)) (kept_change two (view node.now)) (option_map script_forest children) rest) }
 {
     let change = read_change(alloc, two, node)?;
     Ok(ScriptNode::Kept {
@@ -85,7 +85,7 @@ fn read_children(
     two: bool,
     node: &Value,
 ) -> Result<Option<Items<ScriptNode>>, AllocError>
-    ensures { IfOk result (λ children. option_map script_forest children ≡ children_of two (view node.now)) }
+    ensures { IfOk result (λ children. option_map script_forest children ≡ children_from two (view node.now)) }
 {
     match node.get("children") {
         Some(list) => Ok(Some(read_nodes(alloc, two, list)?)),
@@ -96,7 +96,7 @@ fn read_children(
 /// A node with the nodes below it.
 #[cycle(nodes)]
 fn read_node(alloc: Global, two: bool, node: &Value) -> Result<ScriptNode, AllocError>
-    ensures { IfOk result (λ made. (rest : ScriptForest) → in_front made rest ≡ node_before two (view node.now) (children_of two (view node.now)) rest) }
+    ensures { IfOk result (λ made. (rest : ScriptForest) → in_front made rest ≡ node_before two (view node.now) (children_from two (view node.now)) rest) }
 {
     let children = read_children(alloc, two, node)?;
     if node.get("tag").is_none() {
@@ -117,7 +117,7 @@ pub(crate) fn read_nodes(
     two: bool,
     tree: &Value,
 ) -> Result<Items<ScriptNode>, AllocError>
-    ensures { IfOk result (λ nodes. script_forest nodes ≡ nodes_of two (view tree.now)) }
+    ensures { IfOk result (λ nodes. script_forest nodes ≡ nodes_from two (view tree.now)) }
 {
     let list = items_in(tree);
     let mut nodes = Items::new(alloc);

@@ -8,7 +8,7 @@ ghost use Rattle.prop_table.specs.Rules.{rule_at, rule_of, rules_of};
 ghost use Rattle.script_read.specs.Members.{has_form};
 ghost use Rattle.script_read.specs.Places.{refused};
 ghost use Rattle.script_read.specs.Faults.{takes as takes_of, taken as taken_of, row_value as row_value_of, bad_row as bad_row_of, bad_props as bad_props_of, rules_for, bad_props_in as bad_props_in_of, label_of as label_of_of};
-ghost use Rattle.script_read.specs.Value.{marked, named_row as named_row_of, rows_of, named_rows as named_rows_of, props_of as props_of_of, edits_of, named_label as named_label_of, edit_of as edit_of_of};
+ghost use Rattle.script_read.specs.Value.{edit_with, named_row as named_row_of, rows_of, named_rows as named_rows_of, props_of as props_of_of, edits_of, named_label as named_label_of, edit_of as edit_of_of};
 
 use crate::places::{Pointer, Test, at_member, is_from, refused, unless};
 use prop_table::{
@@ -181,7 +181,7 @@ fn with_edit<const N: usize>(
     value: &Value,
 ) -> PropEdit<N>
     requires { row < N }
-    ensures { result ≡ marked edit.now row (named_row_of (view value.now) (rule_at (rules_of table.now) row)) }
+    ensures { result ≡ edit_with edit.now row (named_row_of (view value.now) (rule_at (rules_of table.now) row)) }
 {
     match named_row(value, &table.rows[row]) {
         Some(number) => match table.edit(edit, row, number) {

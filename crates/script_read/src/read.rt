@@ -6,9 +6,9 @@ ghost use Rattle.tree_revision.specs.Sound.{IsSoundScript, IsWithinCounts};
 ghost use Rattle.script_read.specs.Places.{Pointer};
 ghost use Rattle.script_read.specs.Plain.{plain_script};
 ghost use Rattle.script_read.specs.Value.{script_of};
-ghost use Rattle.script_read.specs.Reads.{place_of as place_of_of, fault_of as fault_of_of, script_unless, script_in, ReadsScript};
+ghost use Rattle.script_read.specs.Reads.{place_at as place_at_of, fault_of as fault_of_of, script_unless, script_in, ReadsScript};
 
-use crate::build::build;
+use crate::build::build_script;
 use crate::places::Pointer;
 use crate::script::{Place, Script, ScriptFault, ScriptRefusal};
 use crate::walk::{Check, in_actors};
@@ -23,8 +23,8 @@ use std::alloc::{AllocError, Global};
 const MAX_BYTES: usize = 4_194_304;
 
 /// The place of a pointer from the whole script, whose own place is `/`.
-fn place_of(alloc: Global, pointer: Pointer) -> Result<Place, AllocError>
-    ensures { IfOk result (λ place. place ≡ place_of_of pointer) }
+fn place_at(alloc: Global, pointer: Pointer) -> Result<Place, AllocError>
+    ensures { IfOk result (λ place. place ≡ place_at_of pointer) }
 {
     if pointer.is_empty() {
         let text = Items::from_slice(alloc, b"/")?;
@@ -37,7 +37,7 @@ fn place_of(alloc: Global, pointer: Pointer) -> Result<Place, AllocError>
 macro_rules! fault_at {
     ($alloc:expr, $fault:path, $found:expr) => {
         if let Some(pointer) = $found {
-            return Ok(Some($fault(place_of($alloc, pointer)?)));
+            return Ok(Some($fault(place_at($alloc, pointer)?)));
         }
     };
 }
@@ -85,7 +85,7 @@ fn read_value(alloc: Global, script: &Value) -> Result<Script, ScriptRefusal>
 {
     match fault_of(alloc, script)? {
         Some(fault) => Err(ScriptRefusal::Fault(fault)),
-        None => Ok(build(alloc, script)?),
+        None => Ok(build_script(alloc, script)?),
     }
 }
 

@@ -111,9 +111,6 @@ pub enum ScriptFault {
     TwoMounters(u32),
     /// The turn at that position is not the number of an actor.
     BadTurn(u32),
-    /// The script asks for what is not built so far. No script is read so: it is answered where a
-    /// script would be run.
-    Unbuilt,
 }
 
 /// Why a script was not read.

@@ -23,7 +23,6 @@ fn parts_of(fault: &ScriptFault) -> (u8, &[u8]) {
         ScriptFault::BadTag(place) => (10, place.text.as_slice()),
         ScriptFault::TwoMounters(_) => (11, b""),
         ScriptFault::BadTurn(_) => (12, b""),
-        ScriptFault::Unbuilt => (13, b""),
     }
 }
 

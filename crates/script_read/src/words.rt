@@ -2,7 +2,7 @@
 
 ghost use Rattle.std.specs.Prelude.{◌≡◌};
 ghost use Rattle.serde_json.specs.View.{view};
-ghost use Rattle.script_read.specs.Words.{is_version_two as is_version_two_of, word_of as word_of_of, has_state_form as has_state_form_of, has_step_form as has_step_form_of};
+ghost use Rattle.script_read.specs.Words.{is_version_two as is_version_two_of, step_word as step_word_of, has_state_form as has_state_form_of, has_step_form as has_step_form_of};
 ghost use Rattle.script_read.specs.Shape.{word_in as word_in_of};
 
 use crate::members::{has_form, natural_at, text_at};
@@ -30,8 +30,8 @@ pub(crate) fn is_version_two(script: &Value) -> bool
 }
 
 /// The step's word that a text is; version 2 has two words of its own.
-fn word_of(two: bool, text: &str) -> Option<Word>
-    ensures { result ≡ word_of_of two text.now }
+fn step_word(two: bool, text: &str) -> Option<Word>
+    ensures { result ≡ step_word_of two text.now }
 {
     match text {
         "complete" => Some(Word::Complete),
@@ -51,7 +51,7 @@ fn word_of(two: bool, text: &str) -> Option<Word>
 pub(crate) fn word_in(two: bool, step: &Value) -> Option<Word>
     ensures { result ≡ word_in_of two (view step.now) }
 {
-    word_of(two, text_at(step, "do"))
+    step_word(two, text_at(step, "do"))
 }
 
 /// Whether a state step has exactly one change.

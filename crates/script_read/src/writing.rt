@@ -1,7 +1,8 @@
 //! Scripts as JSON texts.
 
-ghost use Rattle.std.specs.Prelude.{◌≡◌, ◌<◌, ◌≤◌, [], ◌∷◌, codes, length, All, map, option_map, IfOk, OnOk, Ok};
+ghost use Rattle.std.specs.Prelude.{◌≡◌, ◌<◌, ◌≤◌, [], ◌∷◌, codes, length, All, map, option_map, IfOk, OnOk, Ok, IfSome, IsTrue};
 ghost use Rattle.std.specs.Option.{option_copied};
+ghost use Rattle.std.specs.Str.{is_utf8};
 ghost use Rattle.serde_json.specs.Data.{item, depth};
 ghost use Rattle.serde_json.specs.View.{view, items_of, items_view, members_view};
 ghost use Rattle.serde_json.specs.Written.{compact_text};
@@ -12,7 +13,8 @@ ghost use Rattle.tree_revision.specs.Records.{plain_op, state};
 ghost use Rattle.script_read.specs.Plain.{plain_step, plain_actor, plain_surface, plain_script};
 ghost use Rattle.script_read.specs.Writing.{with_members, text_json, row_json, row_members, edit_members, edit_json, unless_start as unless_start_of, changed_rows, some_label as some_label_of, some_object, some_array as some_array_of, member_if, written_json, kept_json, nodes_json, step_object, op_json, step_json, actor_json, surface_json, natural, json_of};
 ghost use Rattle.script_read.specs.Reads.{script_in};
-ghost use Rattle.script_read.specs.Writable.{IsChangeFit, IsOpFit, IsActFit, IsWritable};
+ghost use Rattle.script_read.specs.Writable.{IsWritable};
+ghost use Rattle.script_read.specs.Fits.{IsChangeFit, IsEditFit, AreLabelsText, IsOpFit, IsActFit};
 
 use crate::script::{Act, ActorPlan, Script, Step, SurfacePlan};
 use native_state::StateChange;
@@ -101,7 +103,8 @@ fn put_label(
     label: Option<&Label>,
     members: &mut Map<String, Value>,
 ) -> Result<(), AllocError>
-    ensures { OnOk result (members_view members.new.entries ≡ with_members (member_if (codes "label") (option_map (λ label. text_json label.now) label.entry)) (members_view members.old.entries)) }
+    ensures json { OnOk result (members_view members.new.entries ≡ with_members (member_if (codes "label") (option_map (λ label. text_json label.now) label.entry)) (members_view members.old.entries)) }
+    ensures fits { OnOk result (IfSome label.entry (λ label. IsTrue (is_utf8 label.now))) }
 {
     match label {
         Some(label) => put(members, alloc, "label", text_value(alloc, label.bytes())?),
@@ -112,7 +115,8 @@ fn put_label(
 /// A change of a node.
 #[tactic(auto, using(crate::proofs::RowMembers::with_both))]
 fn edit_value(alloc: Global, edit: &NodeEdit) -> Result<Value, AllocError>
-    ensures { IfOk result (λ value. view value ≡ edit_json edit.now) }
+    ensures json { IfOk result (λ value. view value ≡ edit_json edit.now) }
+    ensures fits { IfOk result (λ _. IsEditFit edit.now) }
 {
     let mut members = Map::new(alloc);
     put_named(alloc, &edit.rows, &mut members)?;
@@ -122,7 +126,8 @@ fn edit_value(alloc: Global, edit: &NodeEdit) -> Result<Value, AllocError>
 
 /// A label, unless it is empty.
 fn some_label(label: &Label) -> Option<&Label>
-    ensures { option_copied result ≡ some_label_of label.now }
+    ensures some { option_copied result ≡ some_label_of label.now }
+    ensures fits { IsTrue (is_utf8 label.now) }
 {
     if label.bytes().is_empty() {
         None
@@ -133,7 +138,8 @@ fn some_label(label: &Label) -> Option<&Label>
 
 /// The props of a written node, unless each row is at its start and the label is empty.
 fn some_props(alloc: Global, props: &NodeProps, label: &Label) -> Result<Option<Value>, AllocError>
-    ensures { IfOk result (λ found. option_map view found ≡ some_object (edit_members (changed_rows v2_rules props.now) (some_label_of label.now))) }
+    ensures json { IfOk result (λ found. option_map view found ≡ some_object (edit_members (changed_rows v2_rules props.now) (some_label_of label.now))) }
+    ensures fits { IfOk result (λ _. IsTrue (is_utf8 label.now)) }
 {
     let mut members = Map::new(alloc);
     put_changed(alloc, props, &mut members)?;
@@ -182,7 +188,8 @@ struct Written<'a> {
 /// A written node, with those values for its children.
 #[tactic(auto, using(crate::proofs::RowMembers::with_both))]
 fn written_value(alloc: Global, written: Written, children: Vec<Value>) -> Result<Value, AllocError>
-    ensures { IfOk result (λ value. view value ≡ written_json (record { tag = written.entry.tag; kind = written.entry.kind; props = written.entry.props.now; label = written.entry.label.now }) (items_view children.items)) }
+    ensures json { IfOk result (λ value. view value ≡ written_json (record { tag = written.entry.tag; kind = written.entry.kind; props = written.entry.props.now; label = written.entry.label.now }) (items_view children.items)) }
+    ensures fits { IfOk result (λ _. IsTrue (is_utf8 written.entry.label.now)) }
 {
     let mut members = Map::new(alloc);
     put(&mut members, alloc, "tag", Value::from(written.tag))?;
@@ -196,7 +203,8 @@ fn written_value(alloc: Global, written: Written, children: Vec<Value>) -> Resul
 
 /// A change of a kept node, where there is one.
 fn change_value(alloc: Global, change: &Option<NodeEdit>) -> Result<Option<Value>, AllocError>
-    ensures { IfOk result (λ found. option_map view found ≡ option_map edit_json change.now) }
+    ensures json { IfOk result (λ found. option_map view found ≡ option_map edit_json change.now) }
+    ensures fits { IfOk result (λ _. IfSome change.now IsEditFit) }
 {
     match change {
         Some(edit) => Ok(Some(edit_value(alloc, edit)?)),
@@ -212,7 +220,8 @@ fn kept_value(
     change: &Option<NodeEdit>,
     children: Option<Vec<Value>>,
 ) -> Result<Value, AllocError>
-    ensures { IfOk result (λ value. view value ≡ kept_json tag change.now (option_map (λ children. items_view children.items) children)) }
+    ensures json { IfOk result (λ value. view value ≡ kept_json tag change.now (option_map (λ children. items_view children.items) children)) }
+    ensures fits { IfOk result (λ _. IfSome change.now IsEditFit) }
 {
     let mut members = Map::new(alloc);
     put(&mut members, alloc, "keep", Value::from(tag))?;
@@ -224,7 +233,8 @@ fn kept_value(
 /// The nodes of a tree.
 #[cycle(nodes)]
 fn node_values(alloc: Global, nodes: &[ScriptNode]) -> Result<Vec<Value>, AllocError>
-    ensures { IfOk result (λ values. items_view values.items ≡ nodes_json (script_forest nodes.now)) }
+    ensures json { IfOk result (λ values. items_view values.items ≡ nodes_json (script_forest nodes.now)) }
+    ensures fits { IfOk result (λ _. AreLabelsText (script_forest nodes.now)) }
 {
     let mut values = Vec::with_capacity(alloc, nodes.len())?;
     for node in nodes {
@@ -237,7 +247,8 @@ fn node_values(alloc: Global, nodes: &[ScriptNode]) -> Result<Vec<Value>, AllocE
 #[cycle(nodes)]
 #[tactic(auto, using(tree_build::proofs::Fronts::front_written, tree_build::proofs::Fronts::front_kept, tree_build::proofs::Fronts::front_kept_with))]
 fn node_value(alloc: Global, node: &ScriptNode) -> Result<Value, AllocError>
-    ensures { IfOk result (λ value. (rest : ScriptForest) → nodes_json (in_front node.now rest) ≡ item (view value) (nodes_json rest)) }
+    ensures json { IfOk result (λ value. (rest : ScriptForest) → nodes_json (in_front node.now rest) ≡ item (view value) (nodes_json rest)) }
+    ensures fits { IfOk result (λ _. (rest : ScriptForest) → AreLabelsText rest → AreLabelsText (in_front node.now rest)) }
 {
     match node {
         ScriptNode::Written {

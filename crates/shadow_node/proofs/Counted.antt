@@ -1,6 +1,7 @@
 -- Counts of made nodes.
 use Rattle.std.proofs.Common.{◌≡◌, ℕ, ◌+◌, arith, refl}
-use Rattle.native_state.specs.Made.{MadeCounts, raised, nodes_more, one_node_more}
+use Rattle.counts.specs.Raised.{raised}
+use Rattle.native_state.specs.Made.{MadeCounts, nodes_more, one_node_more}
 
 -- no more node leaves the counts
 pub nodes_more-zero : (made : MadeCounts) → nodes_more made 0 ≡ made

@@ -1,5 +1,6 @@
 pub mod Forest
 pub mod Fields
+pub mod Parts
 pub mod Code
 pub mod Sound
 pub mod Frames
@@ -8,7 +9,10 @@ pub mod View
 pub mod ViewFalls
 pub mod Find
 pub mod Shown
+pub mod Seen
+pub mod Pruned
 pub mod Entered
+pub mod Stamps
 pub mod Edit
 pub mod Walked
 pub mod InRange

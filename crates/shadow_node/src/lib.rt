@@ -8,9 +8,11 @@ ghost use Rattle.native_state.specs.Made.{one_node_more};
 ghost use Rattle.prop_table.specs.Table.{AreNodeProps};
 ghost use Rattle.shadow_kinds.specs.Traits.{has_state_of, is_leaf_of};
 ghost use Rattle.shadow_node.specs.Forest.{none};
+ghost use Rattle.shadow_node.specs.Parts.{node_of, parts_of};
 ghost use Rattle.shadow_node.specs.Sound.{FitsLeaf, IsSoundNode};
 ghost use Rattle.shadow_node.specs.Falls.{forest_at};
 
+mod stamps;
 #[cfg(test)]
 mod tests;
 mod walks;
@@ -20,6 +22,7 @@ use native_state::StateCell;
 use prop_table::{EditRows, Label, NodeProps};
 use shadow_frame::Rect;
 use shadow_kinds::Kind;
+pub use stamps::Stamps;
 use std::alloc::{AllocError, Global};
 use std::marker::Model;
 use std::sync::Arc;
@@ -52,6 +55,7 @@ impl Model for ShadowNode {
     ghost use Rattle.shadow_node.specs.Forest.{PlainNode};
     ghost use Rattle.shadow_node.specs.Fields.{SettledFields};
     ghost use Rattle.shadow_node.specs.Code.{coded_node, coded_settled};
+    ghost use Rattle.shadow_node.specs.Parts.{node_of, parts_of};
     ghost use Rattle.shadow_node.specs.Sound.{IsSoundNode};
     ghost use Rattle.shadow_node.specs.Falls.{node_size};
     ghost use Rattle.std.proofs.Common.{arith};
@@ -121,7 +125,7 @@ impl ShadowNode {
         requires props { AreNodeProps parts.props }
         requires state { is_some parts.state ≡ has_state_of parts.kind }
         requires leaf { FitsLeaf (is_leaf_of parts.kind) parts.children }
-        ensures node { IfOk result (λ node. node.value ≡ record { fields = record { fields = record { tag = parts.tag; kind = parts.kind; props = parts.props; label = parts.label }; state = parts.state; frame = parts.frame }; children = parts.children }) }
+        ensures node { IfOk result (λ node. node.value ≡ node_of parts) }
         ensures made { OnOk result (made.new ≡ one_node_more made.old) }
         ensures refused { OnErr result (made.new ≡ made.old) }
     {
@@ -195,6 +199,24 @@ impl ShadowNode {
         &self.children
     }
 
+    /// What the node is made of, over other children: its label is shared, and all else is copied.
+    ///
+    /// A node with some other parts is made of these: `Parts { frame, ..node.with_children(children)? }`.
+    pub fn with_children(&self, children: Forest) -> Result<Parts, AllocError>
+        ensures parts { IfOk result (λ parts. parts ≡ parts_of self.now.fields children) }
+        ensures sound { IsSoundNode self.now }
+    {
+        Ok(Parts {
+            tag: self.tag,
+            kind: self.kind,
+            props: self.props,
+            label: self.label.share()?,
+            state: self.state,
+            frame: self.frame,
+            children,
+        })
+    }
+
     /// What holds of each node.
     pub fn is_sound(&self)
         ensures { IsSoundNode self.now }
@@ -245,8 +267,9 @@ impl Forest {
 
 fn needs_send<T: Send + Sync>(_value: &T) {}
 
-/// Nodes and forests are shared by threads.
-pub fn is_shared_by_threads(node: &NodeRef, forest: &Forest) {
+/// Nodes, forests and stamps are shared by threads.
+pub fn is_shared_by_threads(node: &NodeRef, forest: &Forest, stamps: &Stamps) {
     needs_send(node);
     needs_send(forest);
+    needs_send(stamps);
 }

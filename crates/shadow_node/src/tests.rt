@@ -5,7 +5,8 @@ ghost use Rattle.prop_table.specs.Table.{AreNodeProps};
 ghost use Rattle.shadow_node.specs.Forest.{node_count};
 ghost use Rattle.shadow_node.specs.Falls.{forest_at};
 
-use crate::{Forest, Made, NodeRef, Parts, ShadowNode, count, depth, find, path_to};
+use crate::{Forest, Made, NodeRef, Parts, ShadowNode, Stamps, count, depth, find, path_to};
+use native_state::StateCell;
 use prop_table::{Label, NodeProps, node_table};
 use shadow_frame::{Point, Rect, Size};
 use shadow_kinds::Kind;
@@ -88,5 +89,56 @@ fn a_forest_is_walked(rt: HostRuntime) -> Result<(), Fail> {
         let found = find(&forest, tag).map(|node| node.tag());
         assert_eq!(rt; found, way.last().copied(), "{tag}");
     }
+    Ok(())
+}
+
+#[test]
+fn a_node_has_other_parts(rt: HostRuntime) -> Result<(), Fail> {
+    let mut made = Made::start(&rt);
+    let leaf = view(rt.alloc(), &mut made, 2, Vec::new(rt.alloc()))?;
+    let mut below = Vec::new(rt.alloc());
+    below.push(leaf)?;
+    let node = view(rt.alloc(), &mut made, 1, Vec::new(rt.alloc()))?;
+    let frame = Rect {
+        origin: Point { x: 3, y: 4 },
+        size: Size {
+            width: 5,
+            height: 6,
+        },
+    };
+    let children = Forest::of(rt.alloc(), below)?;
+    let parts = Parts {
+        kind: Kind::Scroll,
+        state: Some(StateCell::start()),
+        frame,
+        ..node.with_children(children)?
+    };
+    let other = ShadowNode::make(rt.alloc(), &mut made, parts)?;
+    assert_eq!(rt; made.count(), 3);
+    assert_eq!(rt; other.tag(), 1);
+    assert!(rt; other.kind() == Kind::Scroll);
+    assert!(rt; other.state() == Some(StateCell::start()));
+    assert!(rt; other.frame() == frame);
+    assert!(rt; node.frame() != frame);
+    assert_eq!(rt; count(other.children()), 1);
+    assert_eq!(rt; count(node.children()), 0);
+    Ok(())
+}
+
+#[test]
+fn stamps_are_found_by_their_tags(rt: HostRuntime) -> Result<(), Fail> {
+    let list = [(7, 70), (2, 20), (9, 90), (4, 40)];
+    let stamps = Stamps::of(rt.alloc(), &list)?;
+    let shared = stamps.share()?;
+    for (tag, stamp) in list {
+        assert_eq!(rt; stamps.get(tag), Some(stamp), "{tag}");
+        assert_eq!(rt; shared.get(tag), Some(stamp), "{tag}");
+    }
+    for tag in [0, 1, 3, 5, 8, 10, u32::MAX] {
+        assert!(rt; stamps.get(tag).is_none(), "{tag}");
+    }
+    let none = Stamps::of(rt.alloc(), &[])?;
+    assert!(rt; none.get(7).is_none());
+    assert!(rt; Stamps::none().get(7).is_none());
     Ok(())
 }

@@ -74,21 +74,13 @@ fn remake(
     ensures node { IfOk result (λ new. new.value ≡ record { fields = changed_by change.now node.now.fields; children = children }) }
     ensures made { OnOk result (made.new ≡ one_node_more made.old) }
 {
-    node.is_sound();
     let (props, label) = changed(node, change)?;
-    ShadowNode::make(
-        alloc,
-        made,
-        Parts {
-            tag: node.tag(),
-            kind: node.kind(),
-            props,
-            label,
-            state: node.state(),
-            frame: node.frame(),
-            children,
-        },
-    )
+    let parts = Parts {
+        props,
+        label,
+        ..node.with_children(children)?
+    };
+    ShadowNode::make(alloc, made, parts)
 }
 
 /// A held node with its own children: shared, or made anew where a change is given.

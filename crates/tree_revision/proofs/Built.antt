@@ -10,7 +10,7 @@ use Rattle.shadow_node.proofs.Found.{contents_of_node, first_with-contents}
 use Rattle.tree_build.specs.Script.{ScriptForest, no_more, written, kept, kept_with}
 use Rattle.tree_build.specs.Resolved.{edited_by, kept_node, kept_node_with, resolved}
 use Rattle.tree_build.specs.Built.{changed_by, kept_tree, kept_tree_with, built}
-use Rattle.clone_path.specs.Changed.{changed_at}
+use Rattle.clone_path.specs.Changed.{forest_edited_at}
 use Rattle.tree_revision.specs.Revisions.{edited_at}
 
 -- a change of a node is a change of its fields
@@ -42,9 +42,9 @@ contents_of-built held (kept_with tag change children siblings) =
     ∙ (λ i. kept_node_with (first_with-contents tag held i) change (contents_of-built held children i) (contents_of-built held siblings i))
 
 -- a change at a tag changes the contents there
-pub contents_of-changed_at : (tag : ℕ) (change : NodeEdit) (forest : PlainForest SettledFields) → contents_of (changed_at tag change forest) ≡ edited_at tag change (contents_of forest)
-contents_of-changed_at tag change none = refl
-contents_of-changed_at tag change (node settled children siblings) =
+pub contents_of-forest_edited_at : (tag : ℕ) (change : NodeEdit) (forest : PlainForest SettledFields) → contents_of (forest_edited_at tag change forest) ≡ edited_at tag change (contents_of forest)
+contents_of-forest_edited_at tag change none = refl
+contents_of-forest_edited_at tag change (node settled children siblings) =
     let top : (cond (nat_eq settled.fields.tag tag) (edited_settled change settled) settled).fields ≡ cond (nat_eq settled.fields.tag tag) (edited change settled.fields) settled.fields =
     elim (nat_eq settled.fields.tag tag) as (λ b. (cond b (edited_settled change settled) settled).fields ≡ cond b (edited change settled.fields) settled.fields) [ true ↦ refl | false ↦ refl ] in
-    λ i. node (top i) (contents_of-changed_at tag change children i) (contents_of-changed_at tag change siblings i)
+    λ i. node (top i) (contents_of-forest_edited_at tag change children i) (contents_of-forest_edited_at tag change siblings i)

@@ -5,6 +5,7 @@ use Rattle.std.specs.Ordering.{nat_cmp}
 use Rattle.std.specs.FinMap.{FinMap, get}
 use Rattle.std.proofs.lemmas.Bool.{eqb-true}
 use Rattle.shadow_frame.specs.declared.Size.{Size}
+use Rattle.native_state.specs.Families.{cell_in}
 use Rattle.native_state.specs.declared.StateCell.{StateCell}
 use Rattle.native_state.specs.declared.StateChange.{StateChange}
 use Rattle.native_state.specs.declared.Family.{Family}
@@ -14,7 +15,6 @@ use Rattle.shadow_node.specs.Forest.{PlainForest, PlainNode, none, node}
 use Rattle.shadow_node.specs.Fields.{NodeFields}
 use Rattle.shadow_node.specs.Find.{first_with}
 use Rattle.shadow_node.proofs.Maps.{AllFields}
-use Rattle.tree_settle.specs.Changes.{cell_in}
 use Rattle.tree_revision.specs.Records.{PlainOp, complete, state, props, resize, stop, suspend, resume, PlainRecord}
 use Rattle.tree_revision.specs.Revisions.{PlainFamily, PlainRevision, kind_of_family, revision_of}
 use Rattle.tree_revision.specs.Newest.{change_of, newest_state}

@@ -1,6 +1,6 @@
 -- How many families there are.
-use Rattle.std.proofs.Common.{◌≡◌, ℕ, ◌+◌, List, [], ◌∷◌, ◌++◌, length, length-append, map, Bool, true, false, cond, is_none, is_some, Option, Some, None, nat_eq, get_or, arith, refl, ap, sym, ◌∙◌}
-use Rattle.std.specs.List.{AllByRecursion, IsDistinct}
+use Rattle.std.proofs.Common.{◌≡◌, ℕ, ◌+◌, List, [], ◌∷◌, ◌++◌, length, length-append, map, Bool, true, false, cond, is_none, is_some, Option, Some, None, nat_eq, arith, refl, ap, sym, ◌∙◌}
+use Rattle.std.specs.List.{AllByRecursion, IsDistinct, fold}
 use Rattle.std.specs.Option.{option_map, option_or}
 use Rattle.std.specs.Ordering.{nat_cmp, eq_by_cmp}
 use Rattle.std.specs.Cmp.{nat_cmp_total}
@@ -16,8 +16,8 @@ use Rattle.shadow_node.specs.Forest.{preorder}
 use Rattle.shadow_node.specs.Fields.{NodeFields}
 use Rattle.tree_build.specs.Resolved.{resolved}
 use Rattle.tree_revision.specs.Records.{PlainOp, complete, state, props, resize, stop, suspend, resume, PlainRecord}
-use Rattle.tree_revision.specs.Revisions.{PlainFamily, PlainRevision, opening, kind_of_family, families_with, revision_after, revisions_from, revision_of}
-use Rattle.tree_revision.proofs.Shorthands.{added_to, revision_at}
+use Rattle.tree_revision.specs.Revisions.{PlainFamily, PlainRevision, PlainRevisions, opening, kind_of_family, families_with, revision_after, revision_numbered, one_more_revision, revision_of}
+use Rattle.tree_revision.proofs.Shorthands.{added_to}
 use Rattle.tree_revision.specs.Stands.{family_of}
 use Rattle.tree_revision.specs.Prepared.{new_nodes}
 use Rattle.tree_revision.proofs.Cells.{AreFamilies}
@@ -94,17 +94,15 @@ once_after suspend front held once = once
 once_after resume front held once = once
 
 -- after more changes
-once_from : (size : Size) (past : List PlainRevision) (entries : List PlainRecord) → AreOnce (get_or past 0 (opening size)).families
-    → AreOnce (get_or (revisions_from size past entries) 0 (opening size)).families
-once_from size past [] once = once
-once_from size past (entry ∷ entries) once =
-    let front = get_or past 0 (opening size) in
-    let held = revision_at size past entry.held in
-    once_from size (revision_after entry.op front held ∷ past) entries (once_after entry.op front held once)
+once_from : (revisions : PlainRevisions) (entries : List PlainRecord) → AreOnce revisions.newest.families
+    → AreOnce (fold one_more_revision revisions entries).newest.families
+once_from revisions [] once = once
+once_from revisions (entry ∷ entries) once =
+    once_from (one_more_revision revisions entry) entries (once_after entry.op revisions.newest (revision_numbered revisions entry.held) once)
 
 -- no tag of a history has two families
 pub families_once : (first : Size) (entries : List PlainRecord) → AreOnce (revision_of first entries).families
-families_once first entries = once_from first (opening first ∷ []) entries tt
+families_once first entries = once_from (record { earlier = []; newest = opening first }) entries tt
 
 -- ---- a table of families
 

@@ -12,7 +12,14 @@ pub mod Counts
 pub mod Causes
 pub mod Grown
 pub mod Suspended
+pub mod Stamped
 pub mod Standing
 pub mod Gathered
 pub mod Within
 pub mod Refused
+pub mod OneProof
+pub mod Seen
+pub mod Alike
+pub mod Upward
+pub mod Kept
+pub mod Added

@@ -4,6 +4,7 @@ use Rattle.std.specs.Prelude.{is_some, unwrap_or}
 use Rattle.std.specs.Option.{option_map, option_or, option_and_then}
 use Rattle.std.specs.Ordering.{nat_cmp}
 use Rattle.std.specs.FinMap.{FinMap, get, insert}
+use Rattle.native_state.specs.Families.{cell_in}
 use Rattle.native_state.specs.declared.StateCell.{StateCell}
 use Rattle.native_state.specs.declared.Stale.{Stale}
 use Rattle.native_state.specs.declared.StateChange.{StateChange}
@@ -17,7 +18,6 @@ use Rattle.shadow_node.specs.Find.{first_settled, first_with}
 use Rattle.shadow_node.proofs.Found.{contents_of_node, first_with-contents}
 use Rattle.tree_build.specs.declared.builds.BuildRefusal.{BuildRefusal}
 use Rattle.tree_build.specs.declared.builds.BuildRefusal.TheVariants.{Memory as BuildMemory}
-use Rattle.tree_settle.specs.Changes.{cell_in}
 use Rattle.tree_revision.specs.Cancels.{cancel_for, stale, state_cancel, props_cancel}
 use Rattle.tree_revision.specs.declared.record.Cancel.{Cancel}
 use Rattle.tree_revision.specs.declared.record.Cancel.TheVariants.{NotMounted, Stateless}

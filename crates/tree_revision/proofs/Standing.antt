@@ -1,14 +1,16 @@
 -- The revision after a change stands for one more record.
-use Rattle.std.proofs.Common.{◌≡◌, ℕ, ◌+◌, ◌≤◌, List, [], ◌∷◌, ◌++◌, length, length-append, take, Some, None, arith, refl, ap, sym, ◌∙◌, subst}
+use Rattle.std.proofs.Common.{◌≡◌, ℕ, ◌+◌, ◌≤◌, ◌<◌, List, [], ◌∷◌, ◌++◌, length, length-append, take, Option, Some, None, arith, refl, ap, sym, ◌∙◌, subst}
+use Rattle.std.specs.Prelude.{IfSome, unwrap_or}
 use Rattle.std.specs.Option.{option_map}
 use Rattle.std.specs.Ordering.{nat_cmp}
 use Rattle.std.specs.FinMap as map
 use Rattle.shadow_frame.specs.declared.Size.{Size}
 use Rattle.native_state.specs.declared.StateCell.{StateCell}
 use Rattle.native_state.specs.State.{cell_from}
-use Rattle.shadow_node.specs.Forest.{none, preorder}
-use Rattle.shadow_node.specs.Fields.{contents_of}
+use Rattle.shadow_node.specs.Forest.{PlainForest, none, preorder}
+use Rattle.shadow_node.specs.Fields.{SettledFields, contents_of}
 use Rattle.shadow_node.specs.Frames.{settled_forest}
+use Rattle.shadow_node.specs.Stamps.{StampMap}
 use Rattle.tree_build.specs.Resolved.{resolved}
 use Rattle.tree_settle.specs.Limits.{IsSizeInRange}
 use Rattle.tree_revision.specs.Records.{PlainOp, complete, state, props, resize, stop, suspend, resume, PlainRecord}
@@ -17,31 +19,47 @@ use Rattle.tree_revision.specs.Revisions.{PlainRevision, kind_of_family, familie
 use Rattle.tree_revision.specs.Newest.{change_of, newest_state}
 use Rattle.tree_revision.specs.Cancels.{cancel_at, cancel_of}
 use Rattle.tree_revision.specs.Lawful.{MayFollow}
-use Rattle.tree_revision.specs.Settled.{SettledRevision, KeptRevision, IsWithinLimits}
+use Rattle.tree_revision.specs.Forests.{settled_of}
+use Rattle.tree_revision.specs.ForestStamps.{AreStampsAfter}
+use Rattle.tree_revision.specs.Stamps.{IsStamp, AreStampsOf}
+use Rattle.tree_revision.specs.Settled.{SettledRevision, KeptRevision, IsWithinLimits, opened}
 use Rattle.tree_revision.specs.Stands.{AreFamiliesOf, HasContentOf, StandsFor, family_of}
-use Rattle.tree_revision.specs.Prepared.{cause_in, families_grown, families_next, size_next, forest_next, content_next, kept_next}
+use Rattle.tree_revision.specs.Prepared.{cause_in, families_grown, families_next, size_next, content_next, mountable_next, AreNextStamps}
+use Rattle.tree_revision.specs.Made.{forest_next}
 use Rattle.tree_revision.proofs.Histories.{IsLawful-push, newest_state-push}
 use Rattle.tree_revision.proofs.Revisions.{revision_of-next}
 use Rattle.tree_revision.proofs.Families.{distinct_none}
 use Rattle.tree_revision.proofs.Contents.{contents_of-stands}
-use Rattle.tree_revision.proofs.Built.{contents_of-built, contents_of-changed_at}
+use Rattle.tree_revision.proofs.Built.{contents_of-built, contents_of-forest_edited_at}
 use Rattle.tree_revision.proofs.Cells.{AreFamilies, StartNew, cell_in-families, lawful_start_new}
 use Rattle.tree_revision.proofs.Counts.{families_once}
 use Rattle.tree_revision.proofs.Causes.{built_tags_differ, cause_in-cancel_at}
 use Rattle.tree_revision.proofs.Grown.{first_none, families-changed, families-grown}
 use Rattle.tree_revision.proofs.Suspended.{mountable_next-stands}
+use Rattle.tree_revision.proofs.Stamped.{stamps_next, no_tags, no_stamp}
 
--- a surface before its first commit, as it is kept
-abbrev pub opened : Size → SettledRevision
-opened size = record { number = 0; size = size; forest = none; families = map.empty }
+-- no stamps are those of no record
+no_stamps : (size : Size) → AreStampsOf size map.empty []
+no_stamps size = record {
+  mounted = no_tags;
+  each = no_stamp (IsStamp size []);
+}
 
--- has the content of no record
+-- a surface before its first commit has the content of no record
 opened_content : (size : Size) → HasContentOf size (opened size) []
-opened_content size = record { number = refl; size = refl; forest = refl; families = λ tag. map.get-empty nat_cmp tag }
+opened_content size = record { number = refl; size = refl; forest = refl; families = λ tag. map.get-empty nat_cmp tag; stamps = no_stamps size }
 
 -- a surface before its first commit stands for no record
 pub opening_stands : (size : Size) → StandsFor size (record { newest = opened size; mountable = opened size }) []
 opening_stands size = record { lawful = tt; newest = opened_content size; mountable = opened_content size }
+
+-- so does any that is one with it, where mounting stands still at no older number
+pub none_stands : {A : Type 0} (value : A → SettledRevision) (content : SettledRevision) (still : Option A) → IfSome still (λ older. (value older).number < content.number)
+    → (content.number ≡ 0 → content ≡ opened content.size) → content.number ≡ 0
+    → StandsFor content.size (record { newest = content; mountable = unwrap_or (option_map value still) content }) []
+none_stands value content None older first zero =
+    subst (λ r. StandsFor content.size (record { newest = r; mountable = r }) []) (sym (first zero)) (opening_stands content.size)
+none_stands value content (Some still) older first zero = let never : ⊥ = omega arith in absurd never
 
 -- and keeps the limits
 pub opened_limits : (size : Size) → IsSizeInRange size → IsWithinLimits (opened size)
@@ -49,6 +67,8 @@ opened_limits size in_range = record {
   size = in_range;
   forest = record { within = record { differ = distinct_none; depth = omega arith; count = omega arith }; frames = tt };
   counts = λ tag family found. let both : None ≡ Some family = sym (map.get-empty nat_cmp tag) ∙ found in absurd cc;
+  stamps = no_tags;
+  first = λ _. refl;
 }
 
 -- the cause of a cancel over kept revisions is that over the records that they stand for
@@ -77,7 +97,7 @@ forest_next-after : (op : PlainOp) (front held : SettledRevision) (plain_front p
     → contents_of held.forest ≡ plain_held.forest → contents_of (forest_next op front held) ≡ (revision_after op plain_front plain_held).forest
 forest_next-after (complete nodes) front held plain_front plain_held is held_is = contents_of-built held.forest nodes ∙ ap (λ forest. resolved forest nodes) held_is
 forest_next-after (state tag change) front held plain_front plain_held is held_is = is
-forest_next-after (props tag change) front held plain_front plain_held is held_is = contents_of-changed_at tag change front.forest ∙ ap (edited_at tag change) is
+forest_next-after (props tag change) front held plain_front plain_held is held_is = contents_of-forest_edited_at tag change front.forest ∙ ap (edited_at tag change) is
 forest_next-after (resize size) front held plain_front plain_held is held_is = is
 forest_next-after stop front held plain_front plain_held is held_is = refl
 forest_next-after suspend front held plain_front plain_held is held_is = is
@@ -100,10 +120,16 @@ families_next-after stop front held plain_front plain_held newest held_is are st
 families_next-after suspend front held plain_front plain_held newest held_is are starts admitted = are
 families_next-after resume front held plain_front plain_held newest held_is are starts admitted = are
 
+-- stamps after a commit, by what the forests and the number are
+next_stamps : {old old_is new new_is : PlainForest SettledFields} {before after : StampMap} {number number_is : ℕ} → old ≡ old_is → new ≡ new_is → number ≡ number_is
+    → AreStampsAfter old new before number after → AreStampsAfter old_is new_is before number_is after
+next_stamps {before} {after} p q r are = subst (λ (t : PlainForest SettledFields × PlainForest SettledFields × ℕ). AreStampsAfter t.0 t.1 before t.2 after) (λ i. (p i, q i, r i)) are
+
 -- the next revision has the content of one more record that may follow
-content_next-stands : (first : Size) (front held : KeptRevision) (entries : List PlainRecord) (entry : PlainRecord) → StandsFor first front entries
-    → StandsFor first held (take entry.held entries) → MayFollow first entries entry → HasContentOf first (content_next entry.op front.newest held.newest) (entries ++ entry ∷ [])
-content_next-stands first front held entries entry stands held_stands may =
+content_next-stands : (first : Size) (front held : KeptRevision) (stamps : StampMap) (entries : List PlainRecord) (entry : PlainRecord) → StandsFor first front entries
+    → StandsFor first held (take entry.held entries) → MayFollow first entries entry → AreNextStamps front.newest (content_next entry.op front.newest held.newest stamps)
+    → HasContentOf first (content_next entry.op front.newest held.newest stamps) (entries ++ entry ∷ [])
+content_next-stands first front held stamps entries entry stands held_stands may are =
     let all = entries ++ entry ∷ [] in
     let plain_front = revision_of first entries in
     let plain_held = revision_of first (take entry.held entries) in
@@ -120,26 +146,37 @@ content_next-stands first front held entries entry stands held_stands may =
     forest_next-after entry.op front.newest held.newest plain_front plain_held front_is held_is ∙ ap (λ revision. revision.forest) (sym next) in
     let cells = cell_in-families (families_next entry.op front.newest held.newest) (revision_of first all).families (newest_state all) families
     (lawful_start_new first all (IsLawful-push first entries entry stands.lawful may)) in
+    let settled : (content_next entry.op front.newest held.newest stamps).forest ≡ settled_of first all = λ i. settled_forest (size i) (λ tag. cells tag i) (forest i) in
+    let number : front.newest.number + 1 ≡ length entries + 1 = ap (λ n. n + 1) stands.newest.number in
     record {
-      number = ap (λ n. n + 1) stands.newest.number ∙ omega (arith, length-append entries (entry ∷ []));
+      number = number ∙ omega (arith, length-append entries (entry ∷ []));
       size = size;
-      forest = λ i. settled_forest (size i) (λ tag. cells tag i) (forest i);
+      forest = settled;
       families = families;
+      stamps = stamps_next first entries entry front.newest.stamps stamps stands.newest.stamps (next_stamps stands.newest.forest settled number are);
     }
 
+-- the next revision, with the one that may be mounted
+abbrev pub kept_next : PlainOp → (front held : KeptRevision) → StampMap → KeptRevision
+kept_next op front held stamps = record {
+  newest = content_next op front.newest held.newest stamps;
+  mountable = mountable_next op front (content_next op front.newest held.newest stamps);
+}
+
 -- the revision after a change that nothing cancels stands for one more record
-pub next_stands : (first : Size) (front held : KeptRevision) (entries : List PlainRecord) (entry : PlainRecord) → IsOpInRange entry.op → StandsFor first front entries
+pub next_stands : (first : Size) (front held : KeptRevision) (stamps : StampMap) (entries : List PlainRecord) (entry : PlainRecord) → IsOpInRange entry.op → StandsFor first front entries
     → entry.held ≤ length entries → StandsFor first held (take entry.held entries) → cause_in entry.op front.newest held.newest ≡ None
-    → StandsFor first (kept_next entry.op front held) (entries ++ entry ∷ [])
-next_stands first front held entries entry in_range stands within held_stands admitted =
+    → AreNextStamps front.newest (content_next entry.op front.newest held.newest stamps)
+    → StandsFor first (kept_next entry.op front held stamps) (entries ++ entry ∷ [])
+next_stands first front held stamps entries entry in_range stands within held_stands admitted are =
     let may : MayFollow first entries entry = record {
       in_range = in_range;
       held = within;
       admitted = sym (causes_agree first front held entries entry.held entry.op stands held_stands) ∙ admitted;
     } in
-    let newest = content_next-stands first front held entries entry stands held_stands may in
+    let newest = content_next-stands first front held stamps entries entry stands held_stands may are in
     record {
       lawful = IsLawful-push first entries entry stands.lawful may;
       newest = newest;
-      mountable = mountable_next-stands first front (content_next entry.op front.newest held.newest) entries entry stands newest;
+      mountable = mountable_next-stands first front (content_next entry.op front.newest held.newest stamps) entries entry stands newest;
     }

@@ -4,11 +4,11 @@ use Rattle.std.proofs.lemmas.Bool.Decides.{nat_tests}
 use Rattle.std.proofs.lemmas.List.{take-append-le}
 use Rattle.shadow_frame.specs.declared.Size.{Size}
 use Rattle.tree_revision.specs.Records.{PlainOp, complete, state, props, resize, stop, suspend, resume, PlainRecord}
-use Rattle.tree_revision.specs.Mountable.{still_after, still_from, mountable_of}
+use Rattle.tree_revision.specs.Mountable.{mountable_of}
 use Rattle.tree_revision.specs.Settled.{SettledRevision, KeptRevision}
 use Rattle.tree_revision.specs.Stands.{HasContentOf, StandsFor}
 use Rattle.tree_revision.specs.Prepared.{mountable_next}
-use Rattle.tree_revision.proofs.Mountable.{still_from-append}
+use Rattle.tree_revision.proofs.Mountable.{still_after, still_from, still_from-append, mountable_of-still}
 
 -- mounting stands still at an older number, or goes on
 abbrev IsBelow : ℕ → Option ℕ → Type 0
@@ -85,6 +85,10 @@ module _ (first : Size) (front : KeptRevision) (next : SettledRevision) (entries
       → HasContentOf first (mountable_next entry.op front next) (take (mountable_of (entries ++ entry ∷ [])) (entries ++ entry ∷ []))
   mountable_next-stands stands is =
       let still = still_from 0 None entries in
+      let all = entries ++ entry ∷ [] in
       let below : IsBelow (length entries) still = subst (λ n. IsBelow n still) (omega arith) (below_from 0 None entries tt) in
-      subst (λ (o : Option ℕ). HasContentOf first (mountable_next entry.op front next) (take (unwrap_or o (length (entries ++ entry ∷ []))) (entries ++ entry ∷ [])))
-      (sym (still_from-push entries entry)) (after_change entry.op still below stands.newest.number stands.mountable is)
+      let before : HasContentOf first front.mountable (take (unwrap_or still (length entries)) entries) =
+      subst (λ n. HasContentOf first front.mountable (take n entries)) (mountable_of-still entries) stands.mountable in
+      let number : mountable_of all ≡ unwrap_or (still_after (length entries) entry.op still) (length all) =
+      mountable_of-still all ∙ ap (λ still. unwrap_or still (length all)) (still_from-push entries entry) in
+      rw number (after_change entry.op still below stands.newest.number before is)

@@ -22,7 +22,7 @@ use Rattle.tree_revision.specs.Newest.{newest_state}
 use Rattle.tree_revision.specs.Lawful.{MayFollow, MayAllFollow, IsLawful}
 use Rattle.tree_revision.specs.Tags.{HasSoundTags, KeepsFamilies}
 use Rattle.tree_revision.specs.declared.record.Cancel.{Cancel}
-use Rattle.tree_revision.proofs.Revisions.{revision_of-next}
+use Rattle.tree_revision.proofs.Revisions.{revision_of-push}
 use Rattle.tree_revision.proofs.Forests.{in_preorder, from_preorder, of_tags, resolved_in_range, edited_each, tags_edited}
 use Rattle.tree_revision.proofs.Families.{families_stay, own_families, distinct_unless_repeated, no_repeat, distinct_none}
 
@@ -99,7 +99,7 @@ fronts_push first entries entry h may n =
     elim (cases_lt (length entries) n) as (λ c. IsSound (revision_of first (take n (entries ++ entry ∷ [])))) [
       | inl past ↦
           let all : length (entries ++ entry ∷ []) ≤ n = omega (arith, length-append entries (entry ∷ [])) in
-          rw (take_all n (entries ++ entry ∷ []) all, revision_of-next first entries entry may.held)
+          rw (take_all n (entries ++ entry ∷ []) all, revision_of-push first entries entry)
           (after_sound entry.op (revision_of first entries) (revision_of first (take entry.held entries)) (newest_state entries) (whole_sound first entries h) (h entry.held) may.in_range may.admitted)
       | inr within ↦ rw (take-append-le n entries (entry ∷ []) within) (h n)
     ]
@@ -127,7 +127,7 @@ families_from : (first : Size) (before entries : List PlainRecord) → MayAllFol
 families_from first before [] all = λ tag kind e. subst (λ l. kind_of_family (revision_of first l).families tag ≡ Some kind) (sym (append-nil before)) e
 families_from first before (entry ∷ entries) all = λ tag kind e.
     let next : kind_of_family (revision_of first (before ++ entry ∷ [])).families tag ≡ Some kind =
-    rw (revision_of-next first before entry all.0.held)
+    rw (revision_of-push first before entry)
     (after_keeps entry.op (revision_of first before) (revision_of first (take entry.held before)) tag kind e) in
     subst (λ l. kind_of_family (revision_of first l).families tag ≡ Some kind) (append_assoc before (entry ∷ []) entries)
     (families_from first (before ++ entry ∷ []) entries all.1 tag kind next)

@@ -8,9 +8,14 @@ pub mod Cancels
 pub mod Lawful
 pub mod Tags
 pub mod Mountable
+pub mod ForestStamps
 pub mod Settled
-pub mod Stands
+pub mod Forests
 pub mod Stamps
+pub mod Stands
+pub mod OneMore
+pub mod Made
 pub mod Prepared
 pub mod Steps
+pub mod Unchanged
 pub mod Ports

@@ -2,7 +2,7 @@
 use Rattle.std.specs.Prelude.{◌≡◌, ◌≢◌, ℕ, ◌+◌, ◌-◌, ◌≤◌, ◌<◌, ◌^◌, List, [], ◌∷◌, ◌++◌, length, take, Result, Ok, Err, Option, Some}
 use base.Stored.{Gv}
 use Rattle.shadow_frame.specs.declared.Size.{Size}
-use Rattle.native_state.specs.Made.{raised}
+use Rattle.counts.specs.Raised.{raised, HasRisen}
 use Rattle.tree_revision.specs.Records.{PlainRecord, plain_record}
 use Rattle.tree_revision.specs.Settled.{KeptRevision}
 use Rattle.tree_revision.specs.Stands.{StandsFor}
@@ -50,6 +50,11 @@ pub record IsLook (old new : Told) (revision : KeptRevision) : Type 0 where
   pub seen_whole : (entries : List PlainRecord) → old.whole ≡ Some entries → new.seen ≡ entries
   pub room : 1 ≤ old.permits → revision.newest.number < 2 ^ 64 - 1
 
+-- a look was answered, with some front
+pub record HasLooked (old new : Told) : Type 0 where
+  pub front : KeptRevision
+  pub answered : IsLook old new front
+
 -- what a refusal leaves as it is
 pub record Stays (old new : Told) : Type 0 where
   pub seen : new.seen ≡ old.seen
@@ -58,9 +63,9 @@ pub record Stays (old new : Told) : Type 0 where
   pub looks : new.looks ≡ old.looks
   pub whole : new.whole ≡ old.whole
 
--- a look is refused as busy only where the port was found busy
+-- a look is refused as busy only where the port was found busy once more: that count rose, or stands at its last value
 abbrev pub IsLookRefusal : (old new : Told) → LookRefusal → Type 0
-IsLookRefusal old new LookBusy = old.busy < new.busy
+IsLookRefusal old new LookBusy = HasRisen old.busy new.busy
 IsLookRefusal old new LookMemory = Unit {0}
 
 -- what the answer of a look says
@@ -77,9 +82,9 @@ pub record IsOffer (old new : Told) (entry : PlainRecord) (answer : ℕ) : Type 
   pub looks : new.looks ≡ old.looks
   pub whole : (entries : List PlainRecord) → old.whole ≡ Some entries → (old.seen ≡ entries) × (new.whole ≡ Some new.seen)
 
--- an offer that is refused hands both values back: as busy only where the port was found busy, and as behind where a number above what was seen was found
+-- an offer that is refused hands both values back: as busy only where the port was found busy once more, and as behind where a number above what was seen was found
 abbrev pub IsOfferRefusal : (old new : Told) → Record → KeptRevision → OfferRefusal → Type 0
-IsOfferRefusal old new entry next (OfferBusy entry_back next_back) = (entry_back ≡ entry) × (next_back ≡ next) × (old.busy < new.busy)
+IsOfferRefusal old new entry next (OfferBusy entry_back next_back) = (entry_back ≡ entry) × (next_back ≡ next) × HasRisen old.busy new.busy
 IsOfferRefusal old new entry next (Behind found entry_back next_back) =
     (entry_back ≡ entry) × (next_back ≡ next) × (length old.seen < found) × (found ≤ new.floor)
 

@@ -1,4 +1,4 @@
--- The revision after a change, as the code makes it: from the front and from the held revision.
+-- The revision after a change, as the code makes it: from the front and from the held revision. Only contracts inside the crate cite it.
 use Rattle.std.specs.Prelude.{ℕ, ◌+◌, List, [], ◌∷◌, length, map, filter, nat_eq, nat_lt, is_none, if◌then◌else◌, Option, Some, None, option_and_then, unwrap_or, ◌*◌}
 use Rattle.std.specs.Option.{option_map, option_or}
 use Rattle.std.specs.Ordering.{nat_cmp}
@@ -6,21 +6,23 @@ use Rattle.std.specs.FinMap.{FinMap, get, insert, len}
 use Rattle.shadow_frame.specs.declared.Size.{Size}
 use Rattle.native_state.specs.declared.Family.{Family}
 use Rattle.native_state.specs.State.{start_cell, cell_after}
-use Rattle.native_state.specs.Families.{all_added}
+use Rattle.native_state.specs.Families.{all_added, cell_in}
 use Rattle.shadow_kinds.specs.Words.{code_of}
 use Rattle.shadow_node.specs.Forest.{PlainForest, none, preorder}
 use Rattle.shadow_node.specs.Fields.{NodeFields, SettledFields, contents_of}
 use Rattle.shadow_node.specs.Find.{first_with, way_to}
 use Rattle.shadow_node.specs.Frames.{settled_forest}
+use Rattle.shadow_node.specs.Stamps.{StampMap}
 use Rattle.tree_build.specs.Script.{ScriptForest}
 use Rattle.tree_build.specs.Resolved.{resolved}
 use Rattle.tree_build.specs.Refusals.{build_refusal_of}
 use Rattle.tree_build.specs.Built.{built, made_for}
-use Rattle.clone_path.specs.Changed.{changed_at}
-use Rattle.tree_settle.specs.Changes.{cell_in, changes_in}
+use Rattle.tree_settle.specs.Changes.{changes_in}
 use Rattle.tree_revision.specs.Records.{PlainOp, complete, state, props, resize, stop, suspend, resume}
 use Rattle.tree_revision.specs.Cancels.{cancel_for, state_cancel, props_cancel}
+use Rattle.tree_revision.specs.ForestStamps.{AreStampsAfter}
 use Rattle.tree_revision.specs.Settled.{SettledRevision, KeptRevision}
+use Rattle.tree_revision.specs.Made.{forest_next}
 use Rattle.tree_revision.specs.declared.record.Cancel.{Cancel}
 use Rattle.tree_revision.specs.declared.record.Cancel.TheVariants.{KindChanged, FamiliesFull}
 
@@ -73,47 +75,22 @@ abbrev pub size_next : PlainOp → SettledRevision → Size
 size_next (resize size) front = size
 size_next _ front = front.size
 
--- its forest, before it is settled
-abbrev pub forest_next : PlainOp → (front held : SettledRevision) → PlainForest SettledFields
-forest_next (complete nodes) front held = built held.forest nodes
-forest_next (props tag change) front held = changed_at tag change front.forest
-forest_next stop front held = none
-forest_next _ front held = front.forest
-
--- the next revision
-abbrev pub content_next : PlainOp → (front held : SettledRevision) → SettledRevision
-content_next op front held = record {
+-- the next revision, with these stamps
+abbrev pub content_next : PlainOp → (front held : SettledRevision) → StampMap → SettledRevision
+content_next op front held stamps = record {
   number = front.number + 1;
   size = size_next op front;
   forest = settled_forest (size_next op front) (cell_in (families_next op front held)) (contents_of (forest_next op front held));
   families = families_next op front held;
+  stamps = stamps;
 }
+
+-- the stamps of the next revision are those after a commit to it
+abbrev pub AreNextStamps : (front next : SettledRevision) → Type 0
+AreNextStamps front next = AreStampsAfter front.forest next.forest front.stamps next.number next.stamps
 
 -- the revision that may be mounted with the next one: a surface is suspended where it is an older one
 abbrev pub mountable_next : PlainOp → (front : KeptRevision) → (next : SettledRevision) → SettledRevision
 mountable_next suspend front next = front.mountable
 mountable_next resume front next = next
 mountable_next _ front next = if nat_lt front.mountable.number front.newest.number then front.mountable else next
-
--- the next revision, with the one that may be mounted
-abbrev pub kept_next : PlainOp → (front held : KeptRevision) → KeptRevision
-kept_next op front held = record {
-  newest = content_next op front.newest held.newest;
-  mountable = mountable_next op front (content_next op front.newest held.newest);
-}
-
--- how many nodes are made for a change before it is settled
-abbrev pub made_first : PlainOp → SettledRevision → ℕ
-made_first (complete nodes) front = made_for nodes
-made_first (props tag change) front = length (unwrap_or (way_to tag front.forest) [])
-made_first _ front = 0
-
--- and how many by settling
-abbrev pub made_then : PlainOp → (front held : SettledRevision) → ℕ
-made_then op front held = changes_in (size_next op front) (cell_in (families_next op front held)) (forest_next op front held)
-
--- at most how many families are put into new pages
-abbrev pub families_most : PlainOp → (front held : SettledRevision) → ℕ
-families_most (complete nodes) front held = 65 * length (new_nodes front.families (preorder (resolved (contents_of held.forest) nodes)))
-families_most (state tag change) front held = 65
-families_most _ front held = 0

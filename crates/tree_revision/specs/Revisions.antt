@@ -1,5 +1,6 @@
 -- Revisions as plain data: a commit is a function from one revision to the next.
-use Rattle.std.specs.Prelude.{ℕ, ◌-◌, List, [], ◌∷◌, ◌++◌, length, slice_index_or, nat_eq, if◌then◌else◌, Option, Some, None, is_some}
+use Rattle.std.specs.Prelude.{ℕ, List, [], ◌∷◌, ◌++◌, slice_get, nat_eq, if◌then◌else◌, Option, Some, None, is_some, unwrap_or}
+use Rattle.std.specs.List.{fold}
 use Rattle.shadow_frame.specs.declared.Size.{Size}
 use Rattle.shadow_kinds.specs.declared.Kind.{Kind}
 use Rattle.shadow_node.specs.Forest.{PlainForest, none, node, preorder}
@@ -47,12 +48,26 @@ revision_after (resize size) front held = record front { size = size }
 revision_after stop front held = record front { forest = none }
 revision_after _ front held = front
 
--- the revisions after more records, with the newest first; each caller held the one of its number, and above the newest there is none, and it counts
-abbrev pub revisions_from : Size → List PlainRevision → List PlainRecord → List PlainRevision
-revisions_from size past [] = past
-revisions_from size past (entry ∷ more) =
-    revisions_from size (revision_after entry.op (slice_index_or past 0 (opening size)) (slice_index_or past (length past - 1 - entry.held) (opening size)) ∷ past) more
+-- the revisions of a surface so far: the earlier ones in order, each at its number, and the newest
+pub record PlainRevisions : Type 0 where
+  pub earlier : List PlainRevision
+  pub newest : PlainRevision
+
+-- the revision of a number: that at its place among the earlier ones, and above them the newest
+abbrev pub revision_numbered : PlainRevisions → ℕ → PlainRevision
+revision_numbered revisions number = unwrap_or (slice_get revisions.earlier number) revisions.newest
+
+-- the revisions and one more: what the record's change makes of the newest, by a caller that held the one of its number
+abbrev pub one_more_revision : PlainRevisions → PlainRecord → PlainRevisions
+one_more_revision revisions entry = record {
+  earlier = revisions.earlier ++ revisions.newest ∷ [];
+  newest = revision_after entry.op revisions.newest (revision_numbered revisions entry.held);
+}
+
+-- the revisions of a list of records, on a surface of that first size: before any record there is the opening one alone
+abbrev pub revisions_of : Size → List PlainRecord → PlainRevisions
+revisions_of first entries = fold one_more_revision (record { earlier = []; newest = opening first }) entries
 
 -- the revision of a list of records, on a surface of that first size
 abbrev pub revision_of : Size → List PlainRecord → PlainRevision
-revision_of size entries = slice_index_or (revisions_from size (opening size ∷ []) entries) 0 (opening size)
+revision_of first entries = (revisions_of first entries).newest

@@ -1,23 +1,23 @@
--- How the code takes the step to the next revision.
+-- How the code takes the step to the next revision. Only contracts inside the crate cite it.
 use Rattle.std.specs.Prelude.{◌≡◌, ◌≤◌, ◌+◌, ℕ, List, ◌++◌, map, Option, Some, None, unwrap_or}
 use Rattle.std.specs.Option.{option_map, option_or}
 use Rattle.std.specs.Ordering.{nat_cmp}
 use Rattle.std.specs.FinMap.{FinMap, get, insert}
 use Rattle.shadow_frame.specs.declared.Size.{Size}
+use Rattle.native_state.specs.Families.{cell_in}
 use Rattle.native_state.specs.declared.StateCell.{StateCell}
 use Rattle.native_state.specs.declared.StateChange.{StateChange}
 use Rattle.native_state.specs.declared.Family.{Family}
 use Rattle.native_state.specs.State.{cell_after}
-use Rattle.native_state.specs.Made.{MadeCounts, raised}
 use Rattle.shadow_node.specs.Forest.{PlainForest}
 use Rattle.shadow_node.specs.Fields.{NodeFields, SettledFields, contents_of}
 use Rattle.shadow_node.specs.Frames.{settled_forest}
+use Rattle.shadow_node.specs.Stamps.{StampMap}
 use Rattle.tree_build.specs.declared.builds.BuildRefusal.{BuildRefusal}
 use Rattle.tree_build.specs.declared.builds.BuildRefusal.TheVariants.{Unkept as BuildUnkept, ChildOfLeaf as BuildChildOfLeaf, TwiceTag as BuildTwiceTag, TooDeep as BuildTooDeep, TooManyNodes as BuildTooManyNodes, Memory as BuildMemory}
-use Rattle.tree_settle.specs.Changes.{cell_in}
 use Rattle.tree_revision.specs.Records.{PlainOp}
 use Rattle.tree_revision.specs.Settled.{SettledRevision}
-use Rattle.tree_revision.specs.Prepared.{new_nodes, first_family, other_kind, too_many_families, made_first, made_then, families_most}
+use Rattle.tree_revision.specs.Prepared.{new_nodes, first_family, other_kind, too_many_families}
 use Rattle.tree_revision.specs.declared.record.Cancel.{Cancel}
 use Rattle.tree_revision.specs.declared.record.Cancel.TheVariants.{Unkept, ChildOfLeaf, TwiceTag, TooDeep, TooManyNodes}
 use Rattle.tree_revision.specs.declared.next.PrepareRefusal.{PrepareRefusal}
@@ -64,17 +64,12 @@ abbrev pub families_changed : ℕ → StateChange → FinMap nat_cmp Family → 
 families_changed tag change families =
     unwrap_or (option_map (λ family. insert families tag (record { kind = family.kind; cell = cell_after change family.cell })) (get families tag)) families
 
--- the revision after a front, of that size, with those families and with that forest, which is settled
-abbrev pub settled_next : SettledRevision → Size → FinMap nat_cmp Family → PlainForest SettledFields → SettledRevision
-settled_next front size families forest = record {
+-- the revision after a front, of that size, with those families and with that forest, which is settled, and with these stamps
+abbrev pub settled_next : SettledRevision → Size → FinMap nat_cmp Family → PlainForest SettledFields → StampMap → SettledRevision
+settled_next front size families forest stamps = record {
   number = front.number + 1;
   size = size;
   forest = settled_forest size (cell_in families) (contents_of forest);
   families = families;
+  stamps = stamps;
 }
-
--- how much is made for a change
-pub record IsMadeFor (op : PlainOp) (front held : SettledRevision) (before after : MadeCounts) : Type 0 where
-  pub nodes : after.nodes ≡ raised (raised before.nodes (made_first op front)) (made_then op front held)
-  pub families : before.families ≤ after.families
-  pub families_most : after.families ≤ before.families + families_most op front held

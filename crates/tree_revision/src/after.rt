@@ -1,28 +1,31 @@
 //! The content of the next revision, for each kind of change.
 
 ghost use Rattle.std.specs.Prelude.{◌≡◌, ◌+◌, ◌-◌, ◌<◌, ◌^◌, IfOk, IfErr, OnOk, None};
+ghost use Rattle.native_state.specs.Families.{cell_in};
 ghost use Rattle.native_state.specs.Made.{nodes_more};
 ghost use Rattle.shadow_node.specs.Fields.{contents_of};
 ghost use Rattle.shadow_node.specs.InRange.{IsEditInRange};
 ghost use Rattle.shadow_node.specs.Limits.{IsForestWithin};
 ghost use Rattle.tree_build.specs.Script.{script_forest};
 ghost use Rattle.tree_build.specs.InRange.{AreNodesInRange};
-ghost use Rattle.tree_settle.specs.Changes.{cell_in, changes_in};
+ghost use Rattle.tree_settle.specs.Changes.{changes_in};
 ghost use Rattle.tree_settle.specs.Limits.{IsSizeInRange};
 ghost use Rattle.tree_revision.specs.InRange.{IsOpInRange};
 ghost use Rattle.tree_revision.specs.Records.{plain_op, complete, state as state_op, props as props_op, resize, stop, suspend};
-ghost use Rattle.tree_revision.specs.Prepared.{cause_in, content_next};
-ghost use Rattle.tree_revision.specs.Steps.{AreCountsWithin, IsFor, IsMadeFor, settled_next};
+ghost use Rattle.tree_revision.specs.Prepared.{AreNextStamps, cause_in, content_next};
+ghost use Rattle.tree_revision.specs.Steps.{AreCountsWithin, IsFor, settled_next};
+ghost use Rattle.tree_revision.specs.Made.{IsMadeFor};
 
 use crate::family_changes::{changed, grown};
 use crate::next::PrepareRefusal;
 use crate::record::{Cancel, Op};
 use crate::revision::Content;
+use crate::stamping::stamps_after;
 use clone_path::replace_at;
 use native_state::{FamilyTable, StateChange};
 use shadow_frame::Size;
 use shadow_kinds::has_state;
-use shadow_node::{Forest, Made, NodeEdit, find};
+use shadow_node::{Forest, Made, NodeEdit, Stamps, find};
 use std::alloc::{AllocError, Global};
 use tree_build::{ScriptNode, build};
 use tree_settle::settle;
@@ -41,15 +44,19 @@ fn settled(
     requires size { IsSizeInRange size }
     requires counts { AreCountsWithin (front.now.number + 1) families }
     requires within { IsForestWithin (contents_of forest.now) }
-    ensures content { IfOk result (λ next. next ≡ settled_next front.now size families forest.now) }
-    ensures made { OnOk result (made.new ≡ nodes_more made.old (changes_in size (cell_in families) forest.now)) }
+    ensures content { IfOk result (λ next. next ≡ settled_next front.now size families forest.now next.stamps) }
+    ensures stamps { IfOk result (AreNextStamps front.now) }
+    ensures made { IfOk result (λ next. made.new ≡ nodes_more made.old (changes_in next.size (cell_in next.families) forest.now)) }
 {
     let forest = settle(alloc, made, forest, size, &families)?;
+    let number = front.number + 1;
+    let stamps = stamps_after(alloc, &front.forest, &forest, &front.stamps, number)?;
     Ok(Content {
-        number: front.number + 1,
+        number,
         size,
         forest,
         families,
+        stamps,
     })
 }
 
@@ -63,10 +70,11 @@ fn with_forest(
 ) -> Result<Content, PrepareRefusal>
     requires number { front.now.number < 2 ^ 64 - 1 }
     requires nodes { AreNodesInRange (script_forest nodes.now) }
-    ensures next { IfOk result (λ next. next ≡ content_next (complete (script_forest nodes.now)) front.now held.now) }
+    ensures next { IfOk result (λ next. next ≡ content_next (complete (script_forest nodes.now)) front.now held.now next.stamps) }
+    ensures stamps { IfOk result (AreNextStamps front.now) }
     ensures uncancelled { OnOk result (cause_in (complete (script_forest nodes.now)) front.now held.now ≡ None) }
     ensures cancelled { IfErr result (IsFor (cause_in (complete (script_forest nodes.now)) front.now held.now)) }
-    ensures made { OnOk result (IsMadeFor (complete (script_forest nodes.now)) front.now held.now made.old made.new) }
+    ensures made { IfOk result (λ next. IsMadeFor (complete (script_forest nodes.now)) front.now held.now next made.old made.new) }
 {
     let forest = build(alloc, made, nodes, &held.forest)?;
     let families = grown(alloc, made, &front.families, &forest)?;
@@ -82,10 +90,11 @@ fn with_state(
     front: &Content,
 ) -> Result<Content, PrepareRefusal>
     requires number { front.now.number < 2 ^ 64 - 1 }
-    ensures next { IfOk result (λ next. next ≡ content_next (state_op tag change) front.now front.now) }
+    ensures next { IfOk result (λ next. next ≡ content_next (state_op tag change) front.now front.now next.stamps) }
+    ensures stamps { IfOk result (AreNextStamps front.now) }
     ensures uncancelled { OnOk result (cause_in (state_op tag change) front.now front.now ≡ None) }
     ensures cancelled { IfErr result (IsFor (cause_in (state_op tag change) front.now front.now)) }
-    ensures made { OnOk result (IsMadeFor (state_op tag change) front.now front.now made.old made.new) }
+    ensures made { IfOk result (λ next. IsMadeFor (state_op tag change) front.now front.now next made.old made.new) }
 {
     let Some(node) = find(&front.forest, tag) else {
         return Err(PrepareRefusal::Cancel(Cancel::NotMounted { tag }));
@@ -107,10 +116,11 @@ fn with_props(
 ) -> Result<Content, PrepareRefusal>
     requires number { front.now.number < 2 ^ 64 - 1 }
     requires change { IsEditInRange change.now }
-    ensures next { IfOk result (λ next. next ≡ content_next (props_op tag change.now) front.now front.now) }
+    ensures next { IfOk result (λ next. next ≡ content_next (props_op tag change.now) front.now front.now next.stamps) }
+    ensures stamps { IfOk result (AreNextStamps front.now) }
     ensures uncancelled { OnOk result (cause_in (props_op tag change.now) front.now front.now ≡ None) }
     ensures cancelled { IfErr result (IsFor (cause_in (props_op tag change.now) front.now front.now)) }
-    ensures made { OnOk result (IsMadeFor (props_op tag change.now) front.now front.now made.old made.new) }
+    ensures made { IfOk result (λ next. IsMadeFor (props_op tag change.now) front.now front.now next made.old made.new) }
 {
     let Some(forest) = replace_at(alloc, made, &front.forest, tag, change)? else {
         return Err(PrepareRefusal::Cancel(Cancel::NotMounted { tag }));
@@ -134,8 +144,9 @@ fn with_size(
 ) -> Result<Content, AllocError>
     requires number { front.now.number < 2 ^ 64 - 1 }
     requires size { IsSizeInRange size }
-    ensures next { IfOk result (λ next. next ≡ content_next (resize size) front.now front.now) }
-    ensures made { OnOk result (IsMadeFor (resize size) front.now front.now made.old made.new) }
+    ensures next { IfOk result (λ next. next ≡ content_next (resize size) front.now front.now next.stamps) }
+    ensures stamps { IfOk result (AreNextStamps front.now) }
+    ensures made { IfOk result (λ next. IsMadeFor (resize size) front.now front.now next made.old made.new) }
 {
     let families = front.families.share()?;
     settled(alloc, made, front, size, families, &front.forest)
@@ -144,7 +155,8 @@ fn with_size(
 /// The content with an empty forest.
 fn stopped(front: &Content) -> Result<Content, AllocError>
     requires { front.now.number < 2 ^ 64 - 1 }
-    ensures { IfOk result (λ next. next ≡ content_next stop front.now front.now) }
+    ensures next { IfOk result (λ next. next ≡ content_next stop front.now front.now next.stamps) }
+    ensures stamps { IfOk result (AreNextStamps front.now) }
 {
     let number = front.number + 1;
     Ok(Content {
@@ -152,14 +164,16 @@ fn stopped(front: &Content) -> Result<Content, AllocError>
         size: front.size,
         forest: Forest::empty(),
         families: front.families.share()?,
+        stamps: Stamps::none(),
     })
 }
 
 /// The content after a change that leaves all as it is, except for the number.
 fn unchanged(alloc: Global, made: &mut Made, front: &Content) -> Result<Content, AllocError>
     requires { front.now.number < 2 ^ 64 - 1 }
-    ensures next { IfOk result (λ next. next ≡ content_next suspend front.now front.now) }
-    ensures made { OnOk result (IsMadeFor suspend front.now front.now made.old made.new) }
+    ensures next { IfOk result (λ next. next ≡ content_next suspend front.now front.now next.stamps) }
+    ensures stamps { IfOk result (AreNextStamps front.now) }
+    ensures made { IfOk result (λ next. IsMadeFor suspend front.now front.now next made.old made.new) }
 {
     with_size(alloc, made, front.size, front)
 }
@@ -174,10 +188,11 @@ pub(crate) fn after(
 ) -> Result<Content, PrepareRefusal>
     requires op { IsOpInRange (plain_op op.now) }
     requires number { front.now.number < 2 ^ 64 - 1 }
-    ensures next { IfOk result (λ next. next ≡ content_next (plain_op op.now) front.now held.now) }
+    ensures next { IfOk result (λ next. next ≡ content_next (plain_op op.now) front.now held.now next.stamps) }
+    ensures stamps { IfOk result (AreNextStamps front.now) }
     ensures uncancelled { OnOk result (cause_in (plain_op op.now) front.now held.now ≡ None) }
     ensures cancelled { IfErr result (IsFor (cause_in (plain_op op.now) front.now held.now)) }
-    ensures made { OnOk result (IsMadeFor (plain_op op.now) front.now held.now made.old made.new) }
+    ensures made { IfOk result (λ next. IsMadeFor (plain_op op.now) front.now held.now next made.old made.new) }
 {
     match op {
         Op::Complete { nodes } => with_forest(alloc, made, nodes.as_slice(), front, held),

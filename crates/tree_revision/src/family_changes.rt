@@ -3,13 +3,13 @@
 ghost use Rattle.std.specs.Prelude.{◌≡◌, ◌<◌, ◌-◌, ◌*◌, ◌^◌, [], ◌∷◌, ◌++◌, length, nat_eq, IfOk, IfErr, IfSome, OnOk, None};
 ghost use Rattle.std.specs.List.{IsDistinct};
 ghost use Rattle.std.specs.FinMap as map;
+ghost use Rattle.native_state.specs.Families.{cell_in};
 ghost use Rattle.native_state.specs.Made.{FamiliesWithin};
 ghost use Rattle.native_state.specs.State.{start_cell};
 ghost use Rattle.shadow_node.specs.Forest.{preorder};
 ghost use Rattle.shadow_node.specs.Fields.{contents_of, tags_of};
-ghost use Rattle.tree_settle.specs.Changes.{cell_in};
 ghost use Rattle.tree_revision.specs.Cancels.{stale};
-ghost use Rattle.tree_revision.specs.Prepared.{families_grown, new_nodes, other_kind};
+ghost use Rattle.tree_revision.specs.Prepared.{families_grown, other_kind};
 ghost use Rattle.tree_revision.specs.Steps.{IsFor, AreGathered, growth_cause, families_changed, families_with_cell};
 
 use crate::next::PrepareRefusal;
@@ -83,7 +83,7 @@ pub(crate) fn grown(
     ensures families { IfOk result (λ grown. grown ≡ families_grown families.now (preorder (contents_of forest.now))) }
     ensures uncancelled { OnOk result (growth_cause families.now (preorder (contents_of forest.now)) ≡ None) }
     ensures cancelled { IfErr result (IsFor (growth_cause families.now (preorder (contents_of forest.now)))) }
-    ensures made { OnOk result (FamiliesWithin made.old made.new (65 * length (new_nodes families.now (preorder (contents_of forest.now))))) }
+    ensures made { IfOk result (λ grown. FamiliesWithin made.old made.new (65 * (map.len grown - map.len families.now))) }
 {
     let mut new = Vec::new(alloc);
     add_all(&mut new, forest, families)?;
@@ -91,16 +91,6 @@ pub(crate) fn grown(
         return Err(PrepareRefusal::Cancel(Cancel::FamiliesFull));
     }
     Ok(families.with_new(alloc, made, &new)?)
-}
-
-/// The cell of a tag's family; a tag without one has a cell that never changed.
-fn cell_of(families: &FamilyTable, tag: u32) -> StateCell
-    ensures { result ≡ cell_in families.now tag }
-{
-    match families.get(tag) {
-        Some(family) => family.cell,
-        None => StateCell::start(),
-    }
 }
 
 /// The families with that cell at a tag that has a family.
@@ -139,7 +129,7 @@ pub(crate) fn changed(
     ensures cancelled { IfErr result (IsFor (stale tag change (cell_in families.now tag))) }
     ensures made { OnOk result (FamiliesWithin made.old made.new 65) }
 {
-    match apply(cell_of(families, tag), change) {
+    match apply(families.cell(tag), change) {
         Ok(cell) => Ok(with_cell(alloc, made, families, tag, cell)?),
         Err(stale) => Err(PrepareRefusal::Cancel(Cancel::Stale {
             tag,

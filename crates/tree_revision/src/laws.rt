@@ -1,10 +1,10 @@
 //! Laws of histories: what stands as more commits are admitted.
 
-ghost use Rattle.std.specs.Prelude.{◌≡◌, ◌≤◌, ℕ, List, [], ◌∷◌, ◌++◌, length, slice_index_or};
+ghost use Rattle.std.specs.Prelude.{◌≡◌, ◌≤◌, ℕ, List, [], ◌∷◌, ◌++◌, length, take};
 ghost use Rattle.shadow_frame.specs.declared.Size.{Size};
 ghost use Rattle.native_state.specs.State.{cell_from};
 ghost use Rattle.tree_revision.specs.Records.{PlainRecord};
-ghost use Rattle.tree_revision.specs.Revisions.{opening, revisions_from, revision_of, kind_of_family};
+ghost use Rattle.tree_revision.specs.Revisions.{opening, revision_after, revision_numbered, revisions_of, revision_of, kind_of_family};
 ghost use Rattle.tree_revision.specs.Newest.{change_of, newest_state};
 ghost use Rattle.tree_revision.specs.Mountable.{mountable_of};
 ghost use Rattle.tree_revision.specs.Lawful.{MayFollow, IsLawful};
@@ -23,9 +23,16 @@ pub fn newest_state_after_one_more()
     ensures { (entries : List PlainRecord) (entry : PlainRecord) (tag : ℕ) → newest_state (entries ++ entry ∷ []) tag ≡ cell_from (newest_state entries tag) (change_of tag entry.op) }
 {}
 
+/// The revision of no commit is the opening one, and for every history and one more commit, it is what the commit's change makes of
+/// the revision before, by a caller that held the revision of as many of the first commits.
+pub fn revision_after_one_more()
+    ensures none { (first : Size) → revision_of first [] ≡ opening first }
+    ensures more { (first : Size) (entries : List PlainRecord) (entry : PlainRecord) → revision_of first (entries ++ entry ∷ []) ≡ revision_after entry.op (revision_of first entries) (revision_of first (take entry.held entries)) }
+{}
+
 /// For every history, the revision of a number stays as more commits are admitted.
 pub fn revisions_stay()
-    ensures { (size : Size) (entries more : List PlainRecord) → slice_index_or (revisions_from size (opening size ∷ []) (entries ++ more)) (length more) (opening size) ≡ revision_of size entries }
+    ensures { (first : Size) (entries more : List PlainRecord) → revision_numbered (revisions_of first (entries ++ more)) (length entries) ≡ revision_of first entries }
 {}
 
 /// For every lawful history, it is lawful after one more commit that may follow it, and so is each of its fronts.

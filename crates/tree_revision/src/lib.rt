@@ -8,6 +8,7 @@ mod next;
 mod port;
 mod record;
 mod revision;
+mod stamping;
 #[cfg(test)]
 mod tests;
 

@@ -3,12 +3,14 @@
 ghost use Rattle.std.specs.Prelude.{◌≡◌, ℕ, ◌+◌, ◌-◌, ◌≤◌, ◌<◌, ◌^◌, List, [], ◌∷◌, ◌++◌, length, take, Some, IfOk, IfSome, OnOk, IfErr, unwrap_or};
 ghost use Rattle.std.specs.Option.{option_map};
 ghost use Rattle.shadow_frame.specs.declared.Size.{Size as SurfaceSize};
-ghost use Rattle.native_state.specs.Made.{raised};
+ghost use Rattle.counts.specs.Raised.{raised};
 ghost use Rattle.tree_revision.specs.InRange.{IsOpInRange};
 ghost use Rattle.tree_revision.specs.Records.{PlainRecord, plain_op};
 ghost use Rattle.tree_revision.specs.Cancels.{cancel_of};
 ghost use Rattle.tree_revision.specs.Stands.{StandsFor};
-ghost use Rattle.tree_revision.specs.Prepared.{kept_next, mountable_next, made_first, made_then, families_most};
+ghost use Rattle.tree_revision.specs.Made.{IsMadeFor};
+ghost use Rattle.tree_revision.specs.OneMore.{StandsForOneMore, IsCancelledFor};
+ghost use Rattle.tree_revision.specs.Prepared.{mountable_next};
 ghost use Rattle.tree_revision.specs.Settled.{SettledRevision};
 ghost use Rattle.tree_revision.specs.Steps.{refusal_for};
 ghost use Rattle.tree_revision.specs.declared.record.Cancel.{Cancel as CancelValue};
@@ -73,7 +75,7 @@ fn still_after(alloc: Global, op: &Op, front: &Revision) -> Result<Option<Arc<Co
 /// one stands for that list and one more record, exactly where nothing cancels the change there;
 /// else the cause is answered. On success `made` rises by the nodes that are made for the change
 /// and by those that settling makes, and by at most 65 families for a change of state and for each
-/// new tag.
+/// new family.
 pub fn prepare(
     alloc: Global,
     made: &mut Made,
@@ -83,12 +85,9 @@ pub fn prepare(
 ) -> Result<Revision, PrepareRefusal>
     requires op { IsOpInRange (plain_op op.now) }
     requires number { front.now.newest.number < 2 ^ 64 - 1 }
-    ensures value { IfOk result (λ next. next ≡ kept_next (plain_op op.now) front.now held.now) }
-    ensures next { IfOk result (λ next. (first : SurfaceSize) (entries : List PlainRecord) (entry : PlainRecord) → StandsFor first front.now entries → entry.held ≤ length entries → StandsFor first held.now (take entry.held entries) → entry.op ≡ plain_op op.now → StandsFor first next (entries ++ entry ∷ [])) }
-    ensures cancelled { IfErr result (λ refusal. (cause : CancelValue) → refusal ≡ CancelRefusal cause → (first : SurfaceSize) (entries : List PlainRecord) (number : ℕ) → StandsFor first front.now entries → StandsFor first held.now (take number entries) → cancel_of first (plain_op op.now) entries number ≡ Some cause) }
-    ensures nodes { OnOk result (made.new.nodes ≡ raised (raised made.old.nodes (made_first (plain_op op.now) front.now.newest)) (made_then (plain_op op.now) front.now.newest held.now.newest)) }
-    ensures families { OnOk result (made.old.families ≤ made.new.families) }
-    ensures families_most { OnOk result (made.new.families ≤ made.old.families + families_most (plain_op op.now) front.now.newest held.now.newest) }
+    ensures next { IfOk result (StandsForOneMore (plain_op op.now) front.now held.now) }
+    ensures cancelled { IfErr result (IsCancelledFor (plain_op op.now) front.now held.now) }
+    ensures made { IfOk result (λ next. IsMadeFor (plain_op op.now) front.now.newest held.now.newest next.newest made.old made.new) }
 {
     let content = after(alloc, made, op, &front.content, &held.content)?;
     let still = still_after(alloc, op, front)?;

@@ -1,14 +1,13 @@
 //! A revision of a surface.
 
 ghost use Rattle.std.specs.Prelude.{◌≡◌, [], IfOk};
-ghost use Rattle.std.specs.FinMap as map;
-ghost use Rattle.shadow_node.specs.Forest.{none};
 ghost use Rattle.tree_settle.specs.Limits.{IsSizeInRange, IsForestInLimits};
+ghost use Rattle.tree_revision.specs.Settled.{opened};
 ghost use Rattle.tree_revision.specs.Stands.{StandsFor};
 
 use native_state::FamilyTable;
 use shadow_frame::Size;
-use shadow_node::Forest;
+use shadow_node::{Forest, Stamps};
 use std::alloc::{AllocError, Global};
 use std::marker::Model;
 use std::sync::Arc;
@@ -20,6 +19,8 @@ pub(crate) struct Content {
     pub(crate) size: Size,
     pub(crate) forest: Forest,
     pub(crate) families: FamilyTable,
+    /// Of each mounted tag the number from which on it stands as it does.
+    pub(crate) stamps: Stamps,
 }
 
 impl Model for Content {
@@ -29,9 +30,9 @@ impl Model for Content {
 
     ghost coded = { coded_revision };
 
-    ghost view = { λ c. record { number = c.number; size = c.size; forest = c.forest; families = c.families } };
+    ghost view = { λ c. record { number = c.number; size = c.size; forest = c.forest; families = c.families; stamps = c.stamps } };
 
-    ghost invariant = { λ c. IsWithinLimits (record { number = c.number; size = c.size; forest = c.forest; families = c.families }) };
+    ghost invariant = { λ c. IsWithinLimits (record { number = c.number; size = c.size; forest = c.forest; families = c.families; stamps = c.stamps }) };
 }
 
 impl Content {
@@ -44,12 +45,21 @@ impl Content {
             size: self.size,
             forest: self.forest.share()?,
             families: self.families.share()?,
+            stamps: self.stamps.share()?,
         })
+    }
+
+    /// Number 0 is the content before the first commit.
+    fn is_first(&self)
+        ensures { self.now.number ≡ 0 → self.now ≡ opened self.now.size }
+    {
+        let _number = &self.number;
     }
 }
 
 /// A surface after some number of commits: its size, its forest with each node's state and frame,
-/// and the family of each tag that was ever mounted. It keeps the revision that may be mounted too.
+/// the family of each tag that was ever mounted, and the stamp of each tag that is. It keeps the
+/// revision that may be mounted too.
 #[derive(Drop)]
 pub struct Revision {
     pub(crate) content: Content,
@@ -72,10 +82,11 @@ impl Model for Revision {
 }
 
 impl Revision {
-    /// A surface of that size before its first commit: number 0, an empty forest, and no families.
+    /// A surface of that size before its first commit: number 0, an empty forest, no families and no
+    /// stamps.
     pub fn opening(alloc: Global, size: Size) -> Result<Revision, AllocError>
         requires { IsSizeInRange size }
-        ensures value { IfOk result (λ first. first ≡ record { newest = record { number = 0; size = size; forest = none; families = map.empty }; mountable = record { number = 0; size = size; forest = none; families = map.empty } }) }
+        ensures value { IfOk result (λ first. first ≡ record { newest = opened size; mountable = opened size }) }
         ensures stands { IfOk result (λ first. StandsFor size first []) }
     {
         Ok(Revision {
@@ -84,6 +95,7 @@ impl Revision {
                 size,
                 forest: Forest::empty(),
                 families: FamilyTable::empty(alloc)?,
+                stamps: Stamps::none(),
             },
             still: None,
         })
@@ -145,4 +157,27 @@ impl Revision {
     {
         &self.content.families
     }
+
+    /// Of each mounted tag its stamp: the least number from which on a mount sees of it what it
+    /// sees in this revision.
+    pub fn stamps(&self) -> &Stamps
+        ensures { result.now ≡ self.now.newest.stamps }
+    {
+        &self.content.stamps
+    }
+
+    /// A revision of number 0 is the one before the first commit.
+    pub fn stands_for_none(&self)
+        requires { self.now.newest.number ≡ 0 }
+        ensures { StandsFor self.now.newest.size self.now [] }
+    {
+        self.content.is_first();
+    }
+}
+
+fn needs_send<T: Send + Sync>(_value: &T) {}
+
+/// Revisions are shared by threads.
+pub fn is_shared_by_threads(revision: &Revision) {
+    needs_send(revision);
 }

@@ -40,6 +40,10 @@ enum Try {
     SetIf { tag: u32, count: u64 },
     /// Half the opacity.
     Fade { tag: u32 },
+    /// The node is hidden.
+    Hide { tag: u32 },
+    /// The node is not hidden.
+    Show { tag: u32 },
     Width { width: i64 },
     Stop,
     Suspend,
@@ -84,15 +88,27 @@ fn wide() -> NodeProps
     set(&props, rows::HEIGHT, 40)
 }
 
-/// Half the opacity, and the label as it was.
-fn faded() -> NodeEdit
+/// Another number in a row, and the label as it was.
+fn edited(row: usize, value: i64) -> NodeEdit
+    requires { row < 22 }
     ensures { IsEditInRange result }
 {
     NodeEdit {
         rows: node_table()
-            .edit(&EditRows::empty(), rows::OPACITY, Some(50))
+            .edit(&EditRows::empty(), row, Some(value))
             .unwrap_or(EditRows::empty()),
         label: None,
+    }
+}
+
+/// A change of a node.
+fn props(tag: u32, change: NodeEdit) -> Op
+    requires { IsEditInRange change }
+    ensures { IsOpInRange (plain_op result) }
+{
+    Op::Props {
+        tag: in_range(tag),
+        change,
     }
 }
 
@@ -235,10 +251,9 @@ fn op_of(alloc: Global, change: Try) -> Result<Op, AllocError>
                 point: Point { x: 7, y: 8 },
             },
         )),
-        Try::Fade { tag } => Ok(Op::Props {
-            tag: in_range(tag),
-            change: faded(),
-        }),
+        Try::Fade { tag } => Ok(props(tag, edited(rows::OPACITY, 50))),
+        Try::Hide { tag } => Ok(props(tag, edited(rows::HIDDEN, 1))),
+        Try::Show { tag } => Ok(props(tag, edited(rows::HIDDEN, 0))),
         Try::Width { width } => Ok(Op::Size { size: size(width) }),
         Try::Stop => Ok(Op::Stop),
         Try::Suspend => Ok(Op::Suspend),
@@ -364,5 +379,55 @@ fn a_kept_node_has_its_newest_state(rt: HostRuntime) -> Result<(), Fail> {
     };
     assert!(rt; state_in(&front, 2) == Some(moved));
     assert!(rt; state_in(&held, 2) == Some(StateCell::start()));
+    Ok(())
+}
+
+/// The stamps of the tags 1, 2, 3 and 5; a tag that is not mounted has 0.
+fn stamps_in(revision: &Revision) -> [u64; 4] {
+    [1, 2, 3, 5].map(|tag| revision.stamps().get(tag).unwrap_or(0))
+}
+
+#[test]
+fn stamps_are_renewed_where_something_is_seen(rt: HostRuntime) -> Result<(), Fail> {
+    let mut made = Made::start(&rt);
+    let mut front = Revision::opening(rt.alloc(), size(320))?;
+    assert!(rt; stamps_in(&front) == [0, 0, 0, 0]);
+    let table = [
+        (Try::Mount, [1, 1, 1, 0]),
+        (Try::Mount, [1, 1, 1, 0]),
+        (Try::Add { tag: 2 }, [3, 3, 1, 0]),
+        (Try::Suspend, [3, 3, 1, 0]),
+        (Try::Resume, [3, 3, 1, 0]),
+        (Try::Hide { tag: 3 }, [6, 3, 6, 0]),
+        (Try::Hide { tag: 3 }, [6, 3, 6, 0]),
+        (Try::Hide { tag: 1 }, [8, 8, 6, 0]),
+        (Try::Show { tag: 1 }, [9, 9, 6, 0]),
+        (Try::Exchange, [10, 0, 6, 10]),
+        (Try::Stop, [0, 0, 0, 0]),
+        (Try::Mount, [12, 12, 12, 0]),
+    ];
+    for (turn, (change, want)) in table.into_iter().enumerate() {
+        assert!(rt;
+            step(rt.alloc(), &mut made, change, &mut front, None).is_ok(),
+            "at {turn}"
+        );
+        assert!(rt; stamps_in(&front) == want, "at {turn}");
+    }
+    Ok(())
+}
+
+#[test]
+fn a_change_over_an_older_revision_is_seen(rt: HostRuntime) -> Result<(), Fail> {
+    let mut made = Made::start(&rt);
+    let mut front = Revision::opening(rt.alloc(), size(320))?;
+    assert!(rt; step(rt.alloc(), &mut made, Try::Mount, &mut front, None).is_ok());
+    let held = front.share()?;
+    let fade = Try::Fade { tag: 3 };
+    assert!(rt; step(rt.alloc(), &mut made, fade, &mut front, None).is_ok());
+    assert!(rt; stamps_in(&front) == [2, 1, 2, 0]);
+    let keep = Try::Keep { tag: 1 };
+    assert!(rt; step(rt.alloc(), &mut made, keep, &mut front, Some(&held)).is_ok());
+    assert!(rt; stamps_in(&front) == [3, 1, 3, 0]);
+    assert!(rt; stamps_in(&held) == [1, 1, 1, 0]);
     Ok(())
 }

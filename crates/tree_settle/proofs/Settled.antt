@@ -61,14 +61,20 @@ FitsLeaf-settled true parent newest none fits = tt
 FitsLeaf-settled true parent newest (node settled children siblings) fits = absurd fits
 FitsLeaf-settled false parent newest forest fits = tt
 
--- a forest within the limits that was settled, with its frames in bounds, is in the limits
+-- a settled forest has the frames that settling gives
+pub settled-frames : (size : Size) (newest : ℕ → StateCell) (forest : PlainForest NodeFields) (answer : Result (PlainForest SettledFields) AllocError)
+    → AreFramesInBounds (settled_in size newest forest) → IfOk answer (λ settled. settled ≡ settled_in size newest forest) → IfOk answer AreFramesInBounds
+settled-frames size newest forest (Ok settled) frames e = rw e frames
+settled-frames size newest forest (Err error) frames e = tt
+
+-- where a forest is within the limits, it is in them once it is settled, with its frames in bounds
 pub settled-in_limits : (size : Size) (newest : ℕ → StateCell) (forest : PlainForest NodeFields) (answer : Result (PlainForest SettledFields) AllocError)
-    → IsForestWithin forest → AreFramesInBounds (settled_in size newest forest) → IfOk answer (λ settled. settled ≡ settled_in size newest forest)
-    → IfOk answer IsForestInLimits
-settled-in_limits size newest forest (Ok settled) within frames e =
+    → AreFramesInBounds (settled_in size newest forest) → IfOk answer (λ settled. settled ≡ settled_in size newest forest)
+    → IfOk answer (λ settled. IsForestWithin forest → IsForestInLimits settled)
+settled-in_limits size newest forest (Ok settled) frames e = λ within.
     let same = settled_below-in size newest [] forest in
     record {
       within = rw (e, ← same, contents_of-settled size newest [] forest) within;
       frames = rw e frames;
     }
-settled-in_limits size newest forest (Err error) within frames e = tt
+settled-in_limits size newest forest (Err error) frames e = tt

@@ -5,7 +5,8 @@ use Rattle.std.proofs.lemmas.Int.{ints}
 use Rattle.std.proofs.lemmas.Bool.Decides.{nat_tests}
 use Rattle.shadow_frame.specs.declared.Size.{Size}
 use Rattle.native_state.specs.declared.StateCell.{StateCell}
-use Rattle.native_state.specs.Made.{MadeCounts, raised, nodes_more}
+use Rattle.counts.specs.Raised.{raised}
+use Rattle.native_state.specs.Made.{MadeCounts, nodes_more}
 use Rattle.shadow_node.specs.Forest.{PlainForest, PlainNode, node, depth_of}
 use Rattle.shadow_node.specs.Fields.{SettledFields, contents_of}
 use Rattle.shadow_node.specs.Falls.{Shared, trees_of, forest_at}

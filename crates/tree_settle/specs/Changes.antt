@@ -1,22 +1,14 @@
 -- Which nodes settling changes.
-use Rattle.std.specs.Prelude.{ℕ, zero, suc, ◌+◌, Bool, true, false, ◌&&◌, unwrap_or}
-use Rattle.std.specs.Option.{option_map, option_eq}
-use Rattle.std.specs.Ordering.{nat_cmp}
-use Rattle.std.specs.FinMap.{FinMap, get}
+use Rattle.std.specs.Prelude.{ℕ, zero, suc, ◌+◌, Bool, true, false, ◌&&◌}
+use Rattle.std.specs.Option.{option_eq}
 use Rattle.shadow_frame.specs.declared.Size.{Size}
 use Rattle.shadow_frame.specs.Same.{is_same_frame}
 use Rattle.native_state.specs.declared.StateCell.{StateCell}
-use Rattle.native_state.specs.declared.Family.{Family}
-use Rattle.native_state.specs.State.{start_cell}
 use Rattle.native_state.specs.Same.{is_same_cell}
 use Rattle.shadow_kinds.specs.Traits.{has_state_of}
 use Rattle.shadow_node.specs.Forest.{PlainForest, none, node}
 use Rattle.shadow_node.specs.Fields.{SettledFields}
 use Rattle.shadow_node.specs.Frames.{frame_in, state_when}
-
--- the cell of a tag's family; a tag without a family has one that never changed
-abbrev pub cell_in : FinMap nat_cmp Family → ℕ → StateCell
-cell_in families tag = unwrap_or (option_map (λ family. family.cell) (get families tag)) start_cell
 
 -- a node in a parent of that size has its family's state and its frame already
 abbrev pub is_settled : Size → (newest : ℕ → StateCell) → SettledFields → Bool

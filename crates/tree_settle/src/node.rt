@@ -2,6 +2,7 @@
 
 ghost use Rattle.std.specs.Prelude.{◌≡◌, ◌+◌, ℕ, not, ◌&&◌, is_some, IfOk, OnOk};
 ghost use Rattle.std.specs.Option.{option_eq};
+ghost use Rattle.native_state.specs.Families.{cell_in};
 ghost use Rattle.native_state.specs.Made.{one_node_more};
 ghost use Rattle.native_state.specs.Same.{is_same_cell};
 ghost use Rattle.shadow_frame.specs.Same.{is_same_frame};
@@ -9,7 +10,6 @@ ghost use Rattle.shadow_kinds.specs.Traits.{has_state_of, is_leaf_of};
 ghost use Rattle.shadow_node.specs.Frames as frames;
 ghost use Rattle.shadow_node.specs.Frames.{state_when};
 ghost use Rattle.shadow_node.specs.Sound.{FitsLeaf};
-ghost use Rattle.tree_settle.specs.Changes.{cell_in};
 ghost use Rattle.tree_settle.specs.Limits.{IsFrameInBounds};
 ghost use Rattle.tree_settle.specs.Walk.{HasRoom};
 
@@ -19,22 +19,12 @@ use shadow_kinds::{axes_of, has_state};
 use shadow_node::{Forest, Made, NodeRef, Parts, ShadowNode};
 use std::alloc::{AllocError, Global};
 
-/// The cell of a tag's family; a tag without a family has one that never changed.
-fn cell_of(families: &FamilyTable, tag: u32) -> StateCell
-    ensures { result ≡ cell_in families.now tag }
-{
-    match families.get(tag) {
-        Some(family) => family.cell,
-        None => StateCell::start(),
-    }
-}
-
 /// The state that a node has: its family's, where its kind has one.
 pub(crate) fn state_in(families: &FamilyTable, node: &ShadowNode) -> Option<StateCell>
     ensures { result ≡ state_when (has_state_of node.now.fields.fields.kind) (cell_in families.now node.now.fields.fields.tag) }
 {
     if has_state(node.kind()) {
-        Some(cell_of(families, node.tag()))
+        Some(families.cell(node.tag()))
     } else {
         None
     }
@@ -77,17 +67,10 @@ pub(crate) fn remade(
     ensures node { IfOk result (λ new. new.value ≡ record { fields = record { fields = node.now.fields.fields; state = state; frame = frame }; children = children }) }
     ensures made { OnOk result (made.new ≡ one_node_more made.old) }
 {
-    ShadowNode::make(
-        alloc,
-        made,
-        Parts {
-            tag: node.tag(),
-            kind: node.kind(),
-            props: node.props(),
-            label: node.label().share()?,
-            state,
-            frame,
-            children,
-        },
-    )
+    let parts = Parts {
+        state,
+        frame,
+        ..node.with_children(children)?
+    };
+    ShadowNode::make(alloc, made, parts)
 }

@@ -120,6 +120,22 @@ fn surface(width: i64) -> Size
     Size { width, height: 480 }
 }
 
+/// The forest settled in a surface of that width.
+fn settled(
+    alloc: Global,
+    made: &mut Made,
+    forest: &Forest,
+    width: i64,
+    families: &FamilyTable,
+) -> Result<Forest, AllocError>
+    requires low { pos 0 ≤ℤ width }
+    requires high { width ≤ℤ pos 1000000 }
+    requires within { IsForestWithin (contents_of forest.now) }
+    ensures { IfOk result (λ settled. IsForestWithin (contents_of settled)) }
+{
+    settle(alloc, made, forest, surface(width), families)
+}
+
 /// The width of the node of that tag.
 fn width_of(forest: &Forest, tag: u32) -> Option<i64> {
     find(forest, tag).map(|node| node.frame().size.width)
@@ -136,12 +152,12 @@ fn what_changes_is_made_anew_and_all_else_is_shared(rt: HostRuntime) -> Result<(
     let forest = four_nodes(rt.alloc(), &mut made)?;
     assert_eq!(rt; made.count(), 4);
     let none = FamilyTable::empty(rt.alloc())?;
-    let first = settle(rt.alloc(), &mut made, &forest, surface(320), &none)?;
+    let first = settled(rt.alloc(), &mut made, &forest, 320, &none)?;
     assert_eq!(rt; made.count(), 8, "each node gets its frame");
     for (tag, width) in [(1, 320), (2, 30), (3, 30), (4, 320)] {
         assert_eq!(rt; width_of(&first, tag), Some(width), "{tag}");
     }
-    let again = settle(rt.alloc(), &mut made, &first, surface(320), &none)?;
+    let again = settled(rt.alloc(), &mut made, &first, 320, &none)?;
     assert_eq!(rt; made.count(), 8, "nothing changes");
     let moved = StateCell {
         count: 1,
@@ -156,11 +172,11 @@ fn what_changes_is_made_anew_and_all_else_is_shared(rt: HostRuntime) -> Result<(
             cell: moved,
         },
     )?;
-    let deep = settle(rt.alloc(), &mut made, &again, surface(320), &families)?;
+    let deep = settled(rt.alloc(), &mut made, &again, 320, &families)?;
     assert_eq!(rt; made.count(), 11, "the way down to the input");
     assert!(rt; state_in(&deep, 3) == Some(moved));
     assert!(rt; state_in(&deep, 4) == Some(StateCell::start()));
-    let wider = settle(rt.alloc(), &mut made, &deep, surface(400), &families)?;
+    let wider = settled(rt.alloc(), &mut made, &deep, 400, &families)?;
     assert_eq!(rt; made.count(), 13, "what is as wide as the surface");
     for (tag, width) in [(1, 400), (2, 30), (3, 30), (4, 400)] {
         assert_eq!(rt; width_of(&wider, tag), Some(width), "{tag}");

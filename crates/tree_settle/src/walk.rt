@@ -1,11 +1,12 @@
 //! The walk down a forest: nodes that change are made anew, and all others are shared.
 
 ghost use Rattle.std.specs.Prelude.{◌≡◌, ◌+◌, ◌++◌, ◌∷◌, [], length, is_some, ◌||◌, unwrap_or, nat_lt, IfOk, OnOk};
+ghost use Rattle.native_state.specs.Families.{cell_in};
 ghost use Rattle.native_state.specs.Made.{nodes_more};
 ghost use Rattle.shadow_node.specs.Forest.{depth_of};
 ghost use Rattle.shadow_node.specs.Fields.{contents_of};
 ghost use Rattle.shadow_node.specs.Falls.{trees_of};
-ghost use Rattle.tree_settle.specs.Changes.{cell_in, changes_in};
+ghost use Rattle.tree_settle.specs.Changes.{changes_in};
 ghost use Rattle.tree_settle.specs.Limits.{AreFramesInBounds};
 ghost use Rattle.tree_settle.specs.Walk.{HasRoom, IsTreeInBounds, begun_or, changes_of, settled_in, settled_tree, tree_or};
 

@@ -16,10 +16,10 @@ use Rattle.view_flatten.proofs.Order.{tag_at, tags_at, each_kept, each_passes, e
 use Rattle.view_flatten.proofs.Lines.{IsLined, line_of_tag, viewed_lined, viewed_distinct}
 
 -- a child of a host parent: its line is its tag, and then the parent's line
-record IsChild (line : ℕ → List ℕ) (parent : ℕ) (placed : PlainPlacedView) : Type 0 where
-  tag : 1 ≤ placed.tag
-  parent_is : placed.parent ≡ parent
-  line_is : line placed.tag ≡ placed.tag ∷ line parent
+pub record IsChild (line : ℕ → List ℕ) (parent : ℕ) (placed : PlainPlacedView) : Type 0 where
+  pub tag : 1 ≤ placed.tag
+  pub parent_is : placed.parent ≡ parent
+  pub line_is : line placed.tag ≡ placed.tag ∷ line parent
 
 -- a lined node of a host parent is its child at any index
 child_at : (line : ℕ → List ℕ) (parent : ℕ) (here : Descendant) → IsLined line here × (is_child_of parent here ≡ true) → (at : ℕ)
@@ -31,7 +31,7 @@ child_at line parent here h at = record {
 }
 
 -- the placed nodes below a host parent are its children
-children_below : (line : ℕ → List ℕ) (nodes : List Descendant) (parent : ℕ) → AllByRecursion (IsLined line) nodes → AllByRecursion (IsChild line parent) (placed_below nodes parent)
+pub children_below : (line : ℕ → List ℕ) (nodes : List Descendant) (parent : ℕ) → AllByRecursion (IsLined line) nodes → AllByRecursion (IsChild line parent) (placed_below nodes parent)
 children_below line nodes parent h =
     let here = filter (is_child_of parent) nodes in
     let own = each_of_two (IsLined line) (λ here. is_child_of parent here ≡ true) here (each_kept (IsLined line) (is_child_of parent) nodes h) (each_passes (is_child_of parent) nodes) in

@@ -1,5 +1,5 @@
 -- A host tree has no more views than its forest has nodes.
-use Rattle.std.proofs.Common.{◌≡◌, ◌≤◌, ℕ, suc, List, [], ◌∷◌, length, length-append, filter, Bool, true, false, cond, nat_eq, inl, inr, refl, ap, sym, subst, arith}
+use Rattle.std.proofs.Common.{◌≡◌, ◌≤◌, ℕ, suc, List, [], ◌∷◌, length, length-append, filter, Bool, true, false, cond, nat_eq, inl, inr, refl, sym, subst, arith}
 use Rattle.std.specs.List.{AllByRecursion, IsDistinct, list_any}
 use Rattle.std.proofs.lemmas.Bool.{or_cases, eqb-true, eq-eqb, or_left, or_right}
 use Rattle.std.proofs.lemmas.Cmp.{nat_eq_equiv}
@@ -11,11 +11,9 @@ use Rattle.shadow_node.specs.Shown.{Descendant, descendants, descendants_below}
 use Rattle.host_views.specs.Plain.{PlainHostTree, host_tags}
 use Rattle.view_flatten.specs.HostTree.{viewed, host_tree_of}
 use Rattle.view_flatten.proofs.Shorthands.{has_view}
-use Rattle.view_flatten.specs.Spots.{AreShownTagged}
 use Rattle.view_flatten.proofs.Below.{is_host_tree}
 use Rattle.view_flatten.proofs.Distinct.{each_then}
 use Rattle.view_flatten.proofs.Order.{tag_at, tags_at}
-use Rattle.view_flatten.proofs.ShownPart.{same_host_tree, same_viewed, shown_part, shown_distinct, shown_tagged}
 use Rattle.view_flatten.proofs.Views.{each_below, each_child}
 
 -- a tag that one of some nodes has
@@ -40,7 +38,7 @@ tag_among nodes tag (placed ∷ others) h e =
     ]
 
 -- no more nodes pass a test than there are
-kept_le : (test : Descendant → Bool) (nodes : List Descendant) → length (filter test nodes) ≤ length nodes
+pub kept_le : (test : Descendant → Bool) (nodes : List Descendant) → length (filter test nodes) ≤ length nodes
 kept_le test [] = omega arith
 kept_le test (here ∷ nodes) =
     elim (test here) as (λ b. length (cond b (here ∷ filter test nodes) (filter test nodes)) ≤ suc (length nodes)) [
@@ -70,7 +68,6 @@ tree_le forest distinct low =
     omega (arith, fewer, length-map tree (λ placed. placed.tag), length-map nodes tag_at)
 
 -- and so no more than the forest has nodes
-pub host_tree_le : (forest : PlainForest SettledFields) → IsDistinct nat_eq (tags_of (contents_of forest)) → AreShownTagged forest → length (host_tree_of forest) ≤ node_count forest
-host_tree_le forest distinct tagged =
-    let part = shown_part forest in
-    omega (arith, ap length (same_host_tree forest), tree_le part (shown_distinct forest distinct) (shown_tagged forest tagged), ap length (same_viewed forest), viewed_le forest)
+pub host_tree_le : (forest : PlainForest SettledFields) → IsDistinct nat_eq (tags_of (contents_of forest)) → AllByRecursion (λ tag. 1 ≤ tag) (tags_of (contents_of forest))
+    → length (host_tree_of forest) ≤ node_count forest
+host_tree_le forest distinct low = omega (arith, tree_le forest distinct low, viewed_le forest)

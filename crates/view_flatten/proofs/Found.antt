@@ -11,10 +11,10 @@ use Rattle.shadow_kinds.specs.Traits.{forms_view_of}
 use Rattle.shadow_node.specs.Forest.{PlainForest, none, node}
 use Rattle.shadow_node.specs.Fields.{SettledFields}
 use Rattle.shadow_node.specs.Shown.{Descendant, descendants_below}
-use Rattle.view_flatten.specs.declared.spots.Host.{Host}
+use Rattle.view_flatten.specs.declared.sites.Host.{Host}
 use Rattle.view_flatten.specs.HostTree.{host_parent, moved, host_origin, viewed}
 use Rattle.view_flatten.proofs.Shorthands.{is_context, has_view}
-use Rattle.view_flatten.specs.Spots.{PlainSpot, spot_of, root, host_inside, spot_in, begin_in, when, unless_hidden, spots_from}
+use Rattle.view_flatten.specs.Sites.{PlainSite, site_of, root, host_inside, site_in, begin_in, when, unless_hidden, sites_from}
 use Rattle.view_flatten.proofs.ShownPart.{hides, none_viewed}
 
 -- the host of the nodes below some ancestors
@@ -58,12 +58,12 @@ one_more host above s h = record { parent = parent_inside; begin = begin_inside 
           | false ↦ ap (λ p. moved p c.frame.origin) (h.begin s)
         ]
 
--- the spot of a node
-same_spot : (host : Host) (here : Descendant) → IsHostOf host here.above → spot_of here ≡ spot_in host here.settled
-same_spot host here h i = record {
+-- the site of a node
+same_site : (host : Host) (here : Descendant) → IsHostOf host here.above → site_of here ≡ site_in host here.settled
+same_site host here h i = record {
   tag = here.settled.fields.tag;
   parent = sym h.parent i;
-  z = (spot_of here).z;
+  z = (site_of here).z;
   view = record {
     kind = here.settled.fields.kind;
     props = here.settled.fields.props;
@@ -87,40 +87,40 @@ shown false is_hidden is_below h k = refl
 shown true is_hidden is_below h k = rw (h, k) refl
 
 -- one node before others
-first_kept : (is_kept : Bool) (here : Descendant) (others : List Descendant) → map spot_of (cond is_kept (here ∷ others) others) ≡ when is_kept (spot_of here) ++ map spot_of others
+first_kept : (is_kept : Bool) (here : Descendant) (others : List Descendant) → map site_of (cond is_kept (here ∷ others) others) ≡ when is_kept (site_of here) ++ map site_of others
 first_kept true here others = refl
 first_kept false here others = refl
 
--- a tree before others: nothing of a hidden one, and else its own spot and those below it
-same_tree : (here : Descendant) (below after : List Descendant) (own : PlainSpot) (kids more : List PlainSpot) (is_hidden : Bool)
+-- a tree before others: nothing of a hidden one, and else its own site and those below it
+same_tree : (here : Descendant) (below after : List Descendant) (own : PlainSite) (kids more : List PlainSite) (is_hidden : Bool)
     → (is_hidden ≡ true → (has_view here ≡ false) × (filter has_view below ≡ []))
-    → (is_hidden ≡ false → (has_view here ≡ forms here) × (map spot_of (filter has_view below) ≡ kids))
-    → spot_of here ≡ own → map spot_of (filter has_view after) ≡ more
-    → map spot_of (filter has_view (here ∷ below ++ after)) ≡ unless_hidden is_hidden (when (forms here) own ++ kids) ++ more
+    → (is_hidden ≡ false → (has_view here ≡ forms here) × (map site_of (filter has_view below) ≡ kids))
+    → site_of here ≡ own → map site_of (filter has_view after) ≡ more
+    → map site_of (filter has_view (here ∷ below ++ after)) ≡ unless_hidden is_hidden (when (forms here) own ++ kids) ++ more
 same_tree here below after own kids more true gone stays e rest =
     first_kept (has_view here) here (filter has_view (below ++ after))
-    ∙ ap (λ b. when b (spot_of here) ++ map spot_of (filter has_view (below ++ after))) (gone refl).0
-    ∙ ap (map spot_of) (filter-append has_view below after)
-    ∙ ap (λ r. map spot_of (r ++ filter has_view after)) (gone refl).1 ∙ rest
+    ∙ ap (λ b. when b (site_of here) ++ map site_of (filter has_view (below ++ after))) (gone refl).0
+    ∙ ap (map site_of) (filter-append has_view below after)
+    ∙ ap (λ r. map site_of (r ++ filter has_view after)) (gone refl).1 ∙ rest
 same_tree here below after own kids more false gone stays e rest =
     first_kept (has_view here) here (filter has_view (below ++ after))
-    ∙ ap (λ r. when (has_view here) (spot_of here) ++ r)
-    (ap (map spot_of) (filter-append has_view below after)
-    ∙ map-append spot_of (filter has_view below) (filter has_view after)
-    ∙ ap (λ r. r ++ map spot_of (filter has_view after)) (stays refl).1
+    ∙ ap (λ r. when (has_view here) (site_of here) ++ r)
+    (ap (map site_of) (filter-append has_view below after)
+    ∙ map-append site_of (filter has_view below) (filter has_view after)
+    ∙ ap (λ r. r ++ map site_of (filter has_view after)) (stays refl).1
     ∙ ap (λ r. kids ++ r) rest)
-    ∙ ap (λ b. when b (spot_of here) ++ (kids ++ more)) (stays refl).0
+    ∙ ap (λ b. when b (site_of here) ++ (kids ++ more)) (stays refl).0
     ∙ ap (λ t. when (forms here) t ++ (kids ++ more)) e
     ∙ sym (append_assoc (when (forms here) own) kids more)
 
 -- below ancestors of which none is hidden the walk finds the nodes that have a view
 found_below : (above : List SettledFields) (host : Host) → list_any hides above ≡ false → IsHostOf host above
-    → (forest : PlainForest SettledFields) → map spot_of (filter has_view (descendants_below above forest)) ≡ spots_from host forest
+    → (forest : PlainForest SettledFields) → map site_of (filter has_view (descendants_below above forest)) ≡ sites_from host forest
 found_below above host unhidden at none = refl
 found_below above host unhidden at (node s children siblings) =
     let here : Descendant = record { settled = s; above = above } in
-    same_tree here (descendants_below (s ∷ above) children) (descendants_below above siblings) (spot_in host s)
-    (spots_from (host_inside host s) children) (spots_from host siblings) (hides s)
+    same_tree here (descendants_below (s ∷ above) children) (descendants_below above siblings) (site_in host s)
+    (sites_from (host_inside host s) children) (sites_from host siblings) (hides s)
     (λ h.
     let line : (hides s || list_any hides above) ≡ true = rw h refl in
     (not_shown _ (hides s) (list_any hides above) line, none_viewed (s ∷ above) line children))
@@ -128,8 +128,8 @@ found_below above host unhidden at (node s children siblings) =
       shown _ (hides s) (list_any hides above) h unhidden,
       found_below (s ∷ above) (host_inside host s) (or_from (hides s) (list_any hides above) h unhidden) (one_more host above s at) children,
     ))
-    (same_spot host here at) (found_below above host unhidden at siblings)
+    (same_site host here at) (found_below above host unhidden at siblings)
 
 -- the walk finds the nodes of a forest that have a view
-pub found : (forest : PlainForest SettledFields) → map spot_of (viewed forest) ≡ spots_from root forest
+pub found : (forest : PlainForest SettledFields) → map site_of (viewed forest) ≡ sites_from root forest
 found forest = found_below [] root refl at_root forest

@@ -41,7 +41,7 @@ line_of_host line (parent ∷ above) root h =
     ]
 
 -- a node's line among some nodes, where it is found
-abbrev IsOwnLine : (ℕ → List ℕ) → Descendant → Type 0
+abbrev pub IsOwnLine : (ℕ → List ℕ) → Descendant → Type 0
 IsOwnLine line here = line (tag_at here) ≡ tag_at here ∷ hosts here.above
 
 -- a line is found behind a node of another tag
@@ -101,11 +101,15 @@ lined_each line (here ∷ others) root low own lined = (
 abbrev pub line_of_tag : PlainForest SettledFields → ℕ → List ℕ
 line_of_tag forest = line_in (descendants forest)
 
+-- each node's line is its tag, and then those that host it
+pub each_own_line : (forest : PlainForest SettledFields) → IsDistinct nat_eq (tags_of (contents_of forest)) → AllByRecursion (IsOwnLine (line_of_tag forest)) (descendants forest)
+each_own_line forest distinct = own_lines (descendants forest) (subst (IsDistinct nat_eq) (sym (tags_below [] forest)) distinct)
+
 -- each node that has a view is lined
 pub viewed_lined : (forest : PlainForest SettledFields) → IsDistinct nat_eq (tags_of (contents_of forest)) → AllByRecursion (λ tag. 1 ≤ tag) (tags_of (contents_of forest))
     → AllByRecursion (IsLined (line_of_tag forest)) (viewed forest)
 viewed_lined forest distinct low =
-    let own = own_lines (descendants forest) (subst (IsDistinct nat_eq) (sym (tags_below [] forest)) distinct) in
+    let own = each_own_line forest distinct in
     let low_here = subst (AllByRecursion (λ tag. 1 ≤ tag)) (sym (tags_below [] forest)) low in
     each_kept (IsLined (line_of_tag forest)) has_view (descendants forest)
     (lined_each (line_of_tag forest) (descendants forest) (no_line_of_root (descendants forest) low_here) low_here own

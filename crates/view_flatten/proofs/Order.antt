@@ -64,7 +64,7 @@ distinct_kept test (here ∷ nodes) d =
     ]
 
 -- what holds of a node and of each other holds of each once it is put among them
-each_put : (P : Descendant → Type 0) (here : Descendant) (others : List Descendant) → P here → AllByRecursion P others → AllByRecursion P (put_by_z here others)
+pub each_put : (P : Descendant → Type 0) (here : Descendant) (others : List Descendant) → P here → AllByRecursion P others → AllByRecursion P (put_by_z here others)
 each_put P here [] p h = (p, tt)
 each_put P here (other ∷ others) p h =
     elim (is_below other here) as (λ b. AllByRecursion P (cond b (other ∷ put_by_z here others) (here ∷ other ∷ others))) [

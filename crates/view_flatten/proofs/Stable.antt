@@ -1,7 +1,8 @@
 -- What a stable sort by two numbers leaves where the first is the same: the elements ordered by the second.
-use Rattle.std.proofs.Common.{◌≡◌, ℕ, suc, ◌≤◌, ◌<◌, Bool, true, false, cond, not, ◌&&◌, List, [], ◌∷◌, length, get_or, filter, nat_eq, nat_cmp, is_lt, refl, sym, ap, ◌∙◌, subst, arith, inl, inr}
-use Rattle.std.specs.Prelude.{ℤ, ◌≤ℤ◌, int_lt}
-use Rattle.std.specs.Ordering.{int_cmp, ordering_then}
+use Rattle.std.proofs.Common.{◌≡◌, ℕ, suc, ◌+◌, ◌≤◌, ◌<◌, Bool, true, false, cond, not, ◌&&◌, List, [], ◌∷◌, length, get_or, filter, nat_eq, nat_cmp, is_lt, refl, sym, ap, ◌∙◌, subst, arith, inl, inr}
+use Rattle.std.specs.Prelude.{ℤ, ◌≤ℤ◌, Some, IsTrue, int_lt}
+use Rattle.std.specs.List.{IsAllAdjacentAnswer}
+use Rattle.std.specs.Ordering.{int_cmp, ordering_then, partial_le, partial_ordering_then}
 use Rattle.std.specs.Cmp.{IsStrictWeakOrder}
 use Rattle.std.specs.List.Sorted.{ties, IsSortedBy, IsStableBy, IsNonDecreasingBy}
 use Rattle.std.proofs.lemmas.Bool.{cond-true, cond-false, cases_Bool, cases_order, eqb-true}
@@ -39,6 +40,18 @@ second_decides p a b = grind (arith, nat_tests)
 
 first_decides : (p q : ℕ) (a b : ℤ) → comes_before p a q b ≡ false → q ≤ p
 first_decides p q a b h = grind (arith, nat_tests)
+
+-- whether a pair comes no later than another
+abbrev comes_no_later : ℕ × ℤ → ℕ × ℤ → Bool
+comes_no_later = partial_le (λ x y. partial_ordering_then (Some (nat_cmp x.0 y.0)) (Some (int_cmp x.1 y.1)))
+
+not_before : (p q : ℕ) (a b : ℤ) → true ≡ comes_no_later (p, a) (q, b) → comes_before q b p a ≡ false
+not_before p q a b h =
+    elim (cases_order p q) [
+      | inl same ↦ grind (arith, nat_tests, ints)
+      | inr (inl less) ↦ grind (arith, nat_tests, ints)
+      | inr (inr more) ↦ grind (arith, nat_tests, ints)
+    ]
 
 le_itself : (a : ℤ) → a ≤ℤ a
 le_itself a = omega (arith, ints)
@@ -249,3 +262,13 @@ module _ {X : Type 0} (first : X → ℕ) (second : X → ℤ) where
   pub first_from_sort : (ys : List X) → IsSortedBy goes_before ys → IsNonDecreasingBy first ys
   first_from_sort ys sorted i j d le lt =
       first_decides (first (get_or ys j d)) (first (get_or ys i d)) (second (get_or ys j d)) (second (get_or ys i d)) (sorted_far goes_before ranks ys sorted i j d le lt)
+
+  -- elements of which each comes no later than the next are sorted
+  pub sorted_from_adjacent : (xs : List X) (r : Bool) → IsAllAdjacentAnswer (λ x y b. b ≡ comes_no_later (first x, second x) (first y, second y)) xs r → IsTrue r
+      → IsSortedBy goes_before xs
+  sorted_from_adjacent xs true h is = λ k d low lt. not_before (first (get_or xs k d)) (first (get_or xs (k + 1) d)) (second (get_or xs k d)) (second (get_or xs (k + 1) d)) (h k d lt)
+  sorted_from_adjacent xs false h is = let clash : ⊥ = cc in absurd clash
+
+  -- sorted elements are in order as they stand
+  pub ordered_as_sorted : (xs : List X) → IsSortedBy goes_before xs → (p : ℕ) → those_at p xs ≡ ordered_by second (those_at p xs)
+  ordered_as_sorted xs sorted = ordered_from_sort xs xs sorted (λ x. refl)

@@ -1,73 +1,146 @@
-//! The spots in their order, and the host tree that they make.
+//! The sites in their order, and the host tree that they make.
 
-ghost use Rattle.std.specs.Prelude.{◌≡◌, ◌<◌, ◌≤◌, ◌++◌, [], ◌∷◌, length, map, IfOk, OnOk};
-ghost use Rattle.std.specs.List.Sorted.{IsNonDecreasingBy};
-ghost use Rattle.host_views.specs.Plain.{plain_placed};
-ghost use Rattle.view_flatten.specs.Placing.{AreByZ, placed_spot, spots_at, tree_below};
-ghost use Rattle.view_flatten.specs.Spots.{plain_spot, plain_spots};
+ghost use Rattle.std.specs.Prelude.{◌≡◌, ◌<◌, ◌≤◌, ◌++◌, [], ◌∷◌, Bool, IsTrue, length, IfOk, OnOk};
+ghost use Rattle.std.specs.List.Sorted.{IsNonDecreasingBy, IsPermutation};
+ghost use Rattle.shadow_node.specs.Fields.{SettledFields};
+ghost use Rattle.view_flatten.specs.Placed.{AreMarked, plain_place, plain_places};
+ghost use Rattle.view_flatten.specs.Placing.{AreByZ, placed_site, sites_at, tree_below};
+ghost use Rattle.view_flatten.specs.Sites.{AreSitesMarked, plain_site, plain_sites};
 
-use crate::spots::Spot;
-use host_views::PlacedView;
-use sqlite_items::Items;
+use crate::sites::Site;
+use crate::walks::Spot;
+use host_views::{HostView, ViewRef};
+use shadow_frame::{Point, Rect};
 use std::alloc::{AllocError, Global};
 use std::sync::Arc;
 
-/// Puts spots in order: by their host parent, below it by z, and where z is equal as they stand.
-pub(crate) fn put_in_order(spots: &mut Vec<Spot>) -> Result<(), AllocError>
-    ensures by_z { OnOk result (AreByZ (plain_spots spots.old.items) (plain_spots spots.new.items)) }
-    ensures by_parent { OnOk result (IsNonDecreasingBy (λ spot. spot.parent) spots.new.items) }
-    ensures len { length spots.new.items ≡ length spots.old.items }
+/// A view at its place in the host tree, which is made when it is asked for.
+#[derive(Drop)]
+pub struct Placed<'a> {
+    /// The tag of the host parent, or 0 at the root.
+    pub parent: u32,
+    pub index: u32,
+    /// Where the view begins in the host parent.
+    pub origin: Point,
+    pub spot: Spot<'a>,
+    /// Whether the walk did not enter the node.
+    pub is_skipped: bool,
+}
+
+/// What a walk found.
+#[derive(Drop)]
+pub struct Places<'a> {
+    /// The places in host preorder.
+    pub list: Vec<Placed<'a>>,
+    /// The tags of the nodes that were reached and not entered, in preorder.
+    pub skipped: Vec<u32>,
+}
+
+impl<'a> Placed<'a> {
+    /// The tag of the view, which is that of its node.
+    pub fn tag(&self) -> u32
+        ensures tag { result ≡ (plain_place self.now).tag }
+        ensures low { 1 ≤ result }
+    {
+        self.spot.tag()
+    }
+
+    /// The frame in the host parent.
+    pub fn frame(&self) -> Rect
+        ensures { result ≡ (plain_place self.now).view.frame }
+    {
+        Rect {
+            origin: self.origin,
+            size: self.spot.frame().size,
+        }
+    }
+
+    /// Makes the view. The call fails for want of memory alone.
+    pub fn view(&self, alloc: Global) -> Result<ViewRef, AllocError>
+        ensures { IfOk result (λ view. view.value ≡ (plain_place self.now).view) }
+    {
+        let view = HostView {
+            kind: self.spot.kind(),
+            props: self.spot.props(),
+            label: self.spot.label().share()?,
+            state: self.spot.state(),
+            frame: self.frame(),
+        };
+        Ok(Arc::new(alloc, view)?)
+    }
+}
+
+/// Whether sites are in order: by their host parent, and below it by z.
+fn are_in_order(sites: &[Site]) -> bool
+    ensures by_z { IsTrue result → AreByZ (plain_sites sites.now) (plain_sites sites.now) }
+    ensures by_parent { IsTrue result → IsNonDecreasingBy (λ site. site.parent) sites.now }
 {
-    spots.sort_by_key(|spot| (spot.parent, spot.z))?;
+    sites.is_sorted_by_key(|site| (site.parent, site.z))
+}
+
+/// Puts sites in order: by their host parent, below it by z, and where z is equal as they stand.
+pub(crate) fn put_in_order<'a>(sites: &mut Vec<Site<'a>>) -> Result<(), AllocError>
+    ensures by_z { OnOk result (AreByZ (plain_sites sites.old.items) (plain_sites sites.new.items)) }
+    ensures by_parent { OnOk result (IsNonDecreasingBy (λ site. site.parent) sites.new.items) }
+    ensures moved { IsPermutation sites.old.items sites.new.items }
+{
+    if !are_in_order(sites) {
+        sites.sort_by_key(|site| (site.parent, site.z))?;
+    }
     Ok(())
 }
 
-/// Of spots in order, those below a host parent.
-fn children_of(spots: &[Spot], parent: u32) -> &[Spot]
-    requires { IsNonDecreasingBy (λ spot. spot.parent) spots.now }
-    ensures children { plain_spots result.now ≡ spots_at (plain_spots spots.now) parent }
-    ensures len { length result.now ≤ length spots.now }
+/// Of sites in order, those below a host parent.
+fn children_of<'s, 'a>(sites: &'s [Site<'a>], parent: u32) -> &'s [Site<'a>]
+    requires { IsNonDecreasingBy (λ site. site.parent) sites.now }
+    ensures children { plain_sites result.now ≡ sites_at (plain_sites sites.now) parent }
+    ensures marked { (test : SettledFields → Bool) → AreSitesMarked test sites.now → AreSitesMarked test result.now }
+    ensures len { length result.now ≤ length sites.now }
 {
-    let start = spots.partition_point(|spot| spot.parent < parent);
-    let end = spots.partition_point(|spot| spot.parent <= parent);
-    &spots[start..end]
+    let start = sites.partition_point(|site| site.parent < parent);
+    let end = sites.partition_point(|site| site.parent <= parent);
+    &sites[start..end]
 }
 
-/// Adds the view of a spot below a host parent at that index.
-fn add_view(
-    views: &mut Items<PlacedView>,
-    spot: &Spot,
+/// Adds the place of a site below a host parent at that index.
+fn add_place<'a>(
+    places: &mut Vec<Placed<'a>>,
+    site: &Site<'a>,
     parent: u32,
     index: u32,
 ) -> Result<(), AllocError>
-    ensures { OnOk result (map plain_placed views.new ≡ map plain_placed views.old ++ placed_spot parent index (plain_spot spot.now) ∷ []) }
+    ensures places { OnOk result (plain_places places.new.items ≡ plain_places places.old.items ++ placed_site parent index (plain_site site.now) ∷ []) }
+    ensures marked { OnOk result ((test : SettledFields → Bool) → site.now.is_skipped ≡ test site.now.spot.tree.fields → AreMarked test places.old.items → AreMarked test places.new.items) }
 {
-    let placed = PlacedView {
-        tag: spot.tag,
+    let placed = Placed {
         parent,
         index,
-        view: Arc::try_clone(&spot.view)?,
+        origin: site.origin,
+        spot: site.spot.again(),
+        is_skipped: site.is_skipped,
     };
-    views.push(placed)
+    places.push(placed)?;
+    Ok(())
 }
 
-/// Adds the views below a host parent, down to so many levels: each child, and then those below it.
-pub(crate) fn add_below(
-    views: &mut Items<PlacedView>,
-    spots: &[Spot],
+/// Adds the places below a host parent, down to so many levels: each child, and then those below it.
+pub(crate) fn add_below<'a>(
+    places: &mut Vec<Placed<'a>>,
+    sites: &[Site<'a>],
     parent: u32,
     levels: usize,
 ) -> Result<(), AllocError>
-    requires order { IsNonDecreasingBy (λ spot. spot.parent) spots.now }
-    requires count { length spots.now ≤ 2000 }
-    ensures { OnOk result (map plain_placed views.new ≡ map plain_placed views.old ++ tree_below levels (plain_spots spots.now) parent) }
+    requires order { IsNonDecreasingBy (λ site. site.parent) sites.now }
+    requires count { length sites.now ≤ 2000 }
+    ensures places { OnOk result (plain_places places.new.items ≡ plain_places places.old.items ++ tree_below levels (plain_sites sites.now) parent) }
+    ensures marked { OnOk result ((test : SettledFields → Bool) → AreSitesMarked test sites.now → AreMarked test places.old.items → AreMarked test places.new.items) }
 {
     if levels == 0 {
         return Ok(());
     }
-    for (index, spot) in children_of(spots, parent).iter().enumerate() {
-        add_view(views, spot, parent, index as u32)?;
-        add_below(views, spots, spot.tag, levels - 1)?;
+    for (index, site) in children_of(sites, parent).iter().enumerate() {
+        add_place(places, site, parent, index as u32)?;
+        add_below(places, sites, site.spot.tag(), levels - 1)?;
     }
     Ok(())
 }

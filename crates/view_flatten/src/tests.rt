@@ -1,4 +1,4 @@
-//! The host trees of a small forest whose nodes look this way or that.
+//! The host trees of a small forest whose nodes look this way or that, and the walks over it.
 
 ghost use Rattle.std.specs.Prelude.{◌≡◌, ◌≤◌, ◌<◌, ◌^◌, [], ◌∷◌, IfOk};
 ghost use Rattle.prop_table.specs.Table.{AreNodeProps};
@@ -6,12 +6,12 @@ ghost use Rattle.shadow_node.specs.Falls.{forest_at};
 ghost use Rattle.tree_settle.specs.Limits.{IsForestInLimits, IsFrameInBounds};
 
 use self::Look::{At, Clips, Drawn, Hidden, Plain};
-use crate::flatten;
+use crate::{Placed, Skip, Walk, flatten, places};
 use host_views::HostTree;
 use prop_table::{Label, NodeProps, node_table, rows};
 use shadow_frame::{Point, Rect, Size};
 use shadow_kinds::Kind;
-use shadow_node::{Forest, Made, NodeRef, Parts, ShadowNode};
+use shadow_node::{Forest, Made, NodeRef, Parts, ShadowNode, Stamps};
 use std::alloc::{AllocError, Global};
 use std::test::Fail;
 
@@ -196,5 +196,97 @@ fn forests_have_host_trees(rt: HostRuntime) -> Result<(), Fail> {
         let tree = flatten(alloc, &forest)?;
         assert!(rt; has_views(&tree, wanted), "{name}");
     }
+    Ok(())
+}
+
+/// Whether these are the places of a walk: the tag, the host parent, the index, how far right of
+/// that parent's corner the view begins, and whether the node was skipped.
+fn has_places(places: &[Placed], wanted: &[(u32, u32, u32, i64, bool)]) -> bool {
+    if places.len() != wanted.len() {
+        return false;
+    }
+    for (placed, wanted) in places.iter().zip(wanted) {
+        let begin = placed.frame().origin.x;
+        let place = (
+            placed.tag(),
+            placed.parent,
+            placed.index,
+            begin,
+            placed.is_skipped,
+        );
+        if place != *wanted {
+            return false;
+        }
+    }
+    true
+}
+
+#[test]
+fn walks_leave_out_what_is_skipped(rt: HostRuntime) -> Result<(), Fail> {
+    let alloc = rt.alloc();
+    let mut made = Made::start(&rt);
+    let stamps = Stamps::of(alloc, &[(1, 5)])?;
+    for (name, base, looks, wanted, skipped, entered) in [
+        (
+            "a skipped context keeps its own place",
+            3,
+            [Clips, Clips, Drawn, Drawn, Drawn],
+            &[
+                (1, 0, 0, 2, false),
+                (2, 1, 0, 4, true),
+                (5, 1, 1, 32, false),
+            ][..],
+            &[2][..],
+            2,
+        ),
+        (
+            "contexts with equal z stay in preorder",
+            3,
+            [Clips, At(0), Drawn, Drawn, At(0)],
+            &[(1, 0, 0, 2, false), (2, 1, 0, 4, true), (5, 1, 1, 32, true)][..],
+            &[2, 5][..],
+            1,
+        ),
+        (
+            "hidden nodes are entered and have no place",
+            3,
+            [Clips, Hidden, Clips, Drawn, Drawn],
+            &[(1, 0, 0, 2, false), (5, 1, 0, 32, false)][..],
+            &[3][..],
+            4,
+        ),
+        (
+            "the whole surface is unchanged",
+            5,
+            [Clips, Clips, Drawn, Drawn, Clips],
+            &[(1, 0, 0, 2, true)][..],
+            &[1][..],
+            0,
+        ),
+    ] {
+        let forest = five_views(alloc, &mut made, looks)?;
+        let mut walk = Walk::over(&forest, &stamps);
+        let found = places(alloc, &mut walk, &Skip::Since(base))?;
+        assert!(rt; has_places(&found.list, wanted), "{name}");
+        assert_eq!(rt; found.skipped.as_slice(), skipped, "{name}");
+        assert_eq!(rt; walk.entered(), entered, "{name}");
+    }
+    Ok(())
+}
+
+#[test]
+fn walks_leave_out_tags(rt: HostRuntime) -> Result<(), Fail> {
+    let alloc = rt.alloc();
+    let mut made = Made::start(&rt);
+    let forest = five_views(alloc, &mut made, [Clips, Plain, Drawn, At(-1), Drawn])?;
+    let stamps = Stamps::none();
+    let mut walk = Walk::over(&forest, &stamps);
+    let found = places(alloc, &mut walk, &Skip::Tags(&[2]))?;
+    let wanted = [(1, 0, 0, 2, false), (5, 1, 0, 32, false)];
+    assert!(rt; has_places(&found.list, &wanted));
+    assert_eq!(rt; found.skipped.as_slice(), [2].as_slice());
+    assert_eq!(rt; walk.entered(), 2);
+    let stamped: Vec<u64> = walk.top().map(|spot| spot.stamp()).collect(alloc)?;
+    assert_eq!(rt; stamped.as_slice(), [0].as_slice());
     Ok(())
 }

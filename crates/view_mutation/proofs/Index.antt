@@ -1,16 +1,62 @@
 -- An index of the views by their tags.
-use Rattle.std.proofs.Common.{◌≡◌, ℕ, suc, ◌≤◌, List, length, arith, [], ◌∷◌, true, false, cond, Option, Some, is_some, not, map, refl, ap, ◌∙◌}
+use Rattle.std.proofs.Common.{◌≡◌, ℕ, Bool, zero, suc, ◌+◌, ◌-◌, ◌<◌, ◌≤◌, get_or, drop, drop-cons, add-one, List, length, arith, [], ◌∷◌, true, false, cond, Option, Some, is_some, not, map, refl, ap, sym, ◌∙◌}
 use Rattle.std.specs.Prelude.{filter, nat_eq, ◌||◌}
-use Rattle.std.specs.List.{flat_map}
+use Rattle.std.specs.BTreeMap.{BTreeMap, get}
+use Rattle.std.specs.List.{flat_map, slice_get}
+use Rattle.std.specs.Option.{option_and_then, option_map}
+use Rattle.std.specs.Ordering.{nat_cmp}
 use Rattle.std.proofs.lemmas.List.{length-map}
 use Rattle.host_views.specs.declared.HostView.{HostView}
 use Rattle.host_views.specs.HostTree.{has_tag}
-use Rattle.host_views.specs.declared.PlacedView.{PlacedView}
-use Rattle.host_views.specs.Plain.{PlainHostTree, create, delete, host_tags, children_at, plain_placed}
+use Rattle.view_flatten.specs.declared.placing.Placed.{Placed}
+use Rattle.host_views.specs.Plain.{PlainHostTree, create, delete, host_tags, children_at}
 use Rattle.view_mutation.specs.Mutations.{view_at, removes_at, inserts_at}
 use Rattle.view_mutation.specs.Shorthands.{deletes, creates, updates, host_parents}
 use Rattle.view_mutation.specs.Children.{AreFew, removes_by, inserts_by}
-use Rattle.view_mutation.specs.Lookups.{deletes_by, creates_by, updates_by}
+use Rattle.view_mutation.specs.Lookups.{deletes_by, creates_by, updates_by, indexed, place_at, place_by}
+use Rattle.view_flatten.specs.Placed.{plain_place, plain_places}
+
+-- the view of a tag is that of its first place
+pub view_at_places : (places : List Placed) (tag : ℕ) → option_map (λ placed. (plain_place placed).view) (place_at places tag) ≡ view_at (plain_places places) tag
+view_at_places [] tag = refl
+view_at_places (placed ∷ others) tag =
+    elim (nat_eq (plain_place placed).tag tag) as (λ b. option_map (λ placed. (plain_place placed).view) (cond b (Some placed) (place_at others tag)) ≡ cond b (Some (plain_place placed).view) (view_at (plain_places others) tag)) [
+      | true ↦ refl
+      | false ↦ view_at_places others tag
+    ]
+
+-- by an index of places it is found
+pub indexed_views : (index : BTreeMap ℕ ℕ) (places : List Placed) → ((tag : ℕ) → place_by index places tag ≡ place_at places tag) → (tag : ℕ) → indexed index places tag ≡ view_at (plain_places places) tag
+indexed_views index places h tag = ap (option_map (λ placed. (plain_place placed).view)) (h tag) ∙ view_at_places places tag
+
+-- the first place from an index on: that one where it has the tag, and else the first one after it
+pub place_more : (places : List Placed) (at tag : ℕ) (d : Placed) → at < length places → d ≡ get_or places at d
+    → cond (nat_eq (plain_place d).tag tag) (slice_get places at) (place_at (drop (at + 1) places) tag) ≡ place_at (drop at places) tag
+place_more places at tag d h e =
+    let f : drop at places ≡ get_or places at d ∷ drop (suc at) places = drop-cons places at d h in
+    let g : slice_get places at ≡ Some (get_or places at d) = slice_get-at places at d h in
+    rw (f, g, ← e, add-one) refl
+  where
+    slice_get-at : (xs : List Placed) (i : ℕ) (d : Placed) → i < length xs → slice_get xs i ≡ Some (get_or xs i d)
+    slice_get-at [] i d h = absurd (omega arith)
+    slice_get-at (x ∷ xs) zero d h = refl
+    slice_get-at (x ∷ xs) (suc i) d h = slice_get-at xs i d (omega arith)
+
+-- once the place before an index is put into it, the index finds the first places from there on
+pub index_more : (old new : BTreeMap ℕ ℕ) (places : List Placed) (end key : ℕ) (d : Placed) → 0 < end → end - 1 < length places → d ≡ get_or places (end - 1) d → key ≡ (plain_place d).tag
+    → ((q : ℕ) → get nat_cmp new q ≡ cond (nat_eq key q) (Some (end - 1)) (get nat_cmp old q)) → ((tag : ℕ) → place_by old places tag ≡ place_at (drop end places) tag)
+    → (tag : ℕ) → place_by new places tag ≡ place_at (drop (end - 1) places) tag
+index_more old new places end key d low within is key_is got seen tag =
+    let e : (end - 1) + 1 ≡ end = omega arith in
+    ap (option_and_then (λ at. slice_get places at)) (got tag)
+    ∙ either (nat_eq key tag)
+    ∙ (λ i. cond (nat_eq (key_is i) tag) (slice_get places (end - 1)) (seen tag i))
+    ∙ ap (λ n. cond (nat_eq (plain_place d).tag tag) (slice_get places (end - 1)) (place_at (drop n places) tag)) (sym e)
+    ∙ place_more places (end - 1) tag d within is
+  where
+    either : (b : Bool) → option_and_then (λ at. slice_get places at) (cond b (Some (end - 1)) (get nat_cmp old tag)) ≡ cond b (slice_get places (end - 1)) (place_by old places tag)
+    either true = refl
+    either false = refl
 
 -- a tag is there exactly where it has a view
 pub has_tag_by_view : (tree : PlainHostTree) (tag : ℕ) → is_some (view_at tree tag) ≡ has_tag tree tag
@@ -40,10 +86,10 @@ children_le (placed ∷ others) parent =
     ]
 
 -- a tree of few views has few children at each host parent
-pub few_children : (children : ℕ → List ℕ) (views : List PlacedView) → length views ≤ 2000 → ((parent : ℕ) → children parent ≡ children_at (map plain_placed views) parent) → AreFew children
+pub few_children : (children : ℕ → List ℕ) (views : List Placed) → length views ≤ 2000 → ((parent : ℕ) → children parent ≡ children_at (plain_places views) parent) → AreFew children
 few_children children views few h parent =
-    let count : length (children parent) ≡ length (children_at (map plain_placed views) parent) = ap length (h parent) in
-    omega (arith, count, children_le (map plain_placed views) parent, length-map views plain_placed)
+    let count : length (children parent) ≡ length (children_at (plain_places views) parent) = ap length (h parent) in
+    omega (arith, count, children_le (plain_places views) parent, length-map views plain_place)
 
 pub same_removes : (known_old known_new : ℕ → List ℕ) (old new : PlainHostTree) → ((parent : ℕ) → known_old parent ≡ children_at old parent) → ((parent : ℕ) → known_new parent ≡ children_at new parent)
     → flat_map (removes_by known_old known_new) (host_parents old) ≡ flat_map (removes_at old new) (host_parents old)

@@ -9,3 +9,9 @@ pub mod Kept
 pub mod Parts
 pub mod Whole
 pub mod NoNode
+pub mod LeftOut
+pub mod ViewOf
+pub mod Skipped
+pub mod Since
+pub mod SameSkipped
+pub mod FiveTagged

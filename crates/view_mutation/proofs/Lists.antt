@@ -4,15 +4,16 @@ use Rattle.std.specs.Prelude.{filter}
 use Rattle.std.proofs.lemmas.List.{map-append, drop_all}
 use Rattle.std.proofs.lemmas.Bool.{cases_lt}
 use Rattle.std.proofs.lemmas.List.Elements.{filter-append}
-use Rattle.host_views.specs.declared.PlacedView.{PlacedView}
+use Rattle.view_flatten.specs.declared.placing.Placed.{Placed}
 use Rattle.host_views.specs.declared.Mutation.{Mutation}
-use Rattle.host_views.specs.Plain.{PlainPlacedView, PlainHostTree, PlainMutation, plain_placed, plain_mutation}
+use Rattle.host_views.specs.Plain.{PlainPlacedView, PlainHostTree, PlainMutation, plain_mutation}
 use Rattle.view_mutation.specs.Mutations.{common_prefix}
 use Rattle.view_mutation.specs.Lookups.{IsListed}
+use Rattle.view_flatten.specs.Placed.{plain_place, plain_places}
 
 -- the views from an index on: the first one, and the others
-pub left_at : (views : List PlacedView) (i : ℕ) (d : PlacedView) → i < length views → d ≡ get_or views i d
-    → map plain_placed (drop i views) ≡ plain_placed d ∷ map plain_placed (drop (i + 1) views)
+pub left_at : (views : List Placed) (i : ℕ) (d : Placed) → i < length views → d ≡ get_or views i d
+    → plain_places (drop i views) ≡ plain_place d ∷ plain_places (drop (i + 1) views)
 left_at views i d h e = let f : drop i views ≡ get_or views i d ∷ drop (suc i) views = drop-cons views i d h in rw (f, ← e, add-one) refl
 
 -- what a filter gives at the first view, and at the others
@@ -21,16 +22,16 @@ filtered_first : (f : PlainPlacedView → PlainMutation) (p : PlainPlacedView �
 filtered_first f p x xs = ap (map f) (filter-append p (x ∷ []) xs) ∙ map-append f (filter p (x ∷ [])) (filter p xs)
 
 -- one more view of a filter was listed
-pub filtered_more : (f : PlainPlacedView → PlainMutation) (p : PlainPlacedView → Bool) (views : List PlacedView) (i : ℕ) (d : PlacedView)
-    → i < length views → d ≡ get_or views i d → (a b : List Mutation) (whole : List PlainMutation) → IsListed a (map f (filter p (plain_placed d ∷ []))) b
-    → map plain_mutation a ++ map f (filter p (map plain_placed (drop i views))) ≡ whole
-    → map plain_mutation b ++ map f (filter p (map plain_placed (drop (i + 1) views))) ≡ whole
+pub filtered_more : (f : PlainPlacedView → PlainMutation) (p : PlainPlacedView → Bool) (views : List Placed) (i : ℕ) (d : Placed)
+    → i < length views → d ≡ get_or views i d → (a b : List Mutation) (whole : List PlainMutation) → IsListed a (map f (filter p (plain_place d ∷ []))) b
+    → map plain_mutation a ++ map f (filter p (plain_places (drop i views))) ≡ whole
+    → map plain_mutation b ++ map f (filter p (plain_places (drop (i + 1) views))) ≡ whole
 filtered_more f p views i d h e a b whole l w =
-    let rest = map plain_placed (drop (i + 1) views) in
-    let first = map f (filter p (plain_placed d ∷ [])) in
+    let rest = plain_places (drop (i + 1) views) in
+    let first = map f (filter p (plain_place d ∷ [])) in
     ap (λ r. r ++ map f (filter p rest)) l.listed
     ∙ append_assoc (map plain_mutation a) first (map f (filter p rest))
-    ∙ ap (λ r. map plain_mutation a ++ r) (sym (filtered_first f p (plain_placed d) rest))
+    ∙ ap (λ r. map plain_mutation a ++ r) (sym (filtered_first f p (plain_place d) rest))
     ∙ ap (λ r. map plain_mutation a ++ map f (filter p r)) (sym (left_at views i d h e))
     ∙ w
 

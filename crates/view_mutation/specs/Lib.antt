@@ -3,3 +3,5 @@ pub mod Lookups
 pub mod Leads
 pub mod Children
 pub mod Shorthands
+pub mod Since
+pub mod SameSkipped

@@ -1,18 +1,27 @@
 -- The lists of mutations that go by tags, from what is known at each tag.
-use Rattle.std.specs.Prelude.{◌≡◌, ℕ, List, ◌++◌, not, Option, is_some, filter, map}
-use Rattle.std.specs.Option.{option_map}
+use Rattle.std.specs.Prelude.{◌≡◌, ℕ, List, ◌++◌, not, nat_eq, Option, is_some, filter, map}
+use Rattle.std.specs.List.{find, slice_get}
+use Rattle.std.specs.Option.{option_and_then, option_map}
 use Rattle.std.specs.Ordering.{nat_cmp}
 use Rattle.std.specs.BTreeMap.{BTreeMap, get}
-use Rattle.std.specs.declared.sync.Arc.{Arc}
-use Rattle.std.specs.declared.alloc.Global.{Global}
 use Rattle.host_views.specs.declared.HostView.{HostView}
 use Rattle.host_views.specs.declared.Mutation.{Mutation}
 use Rattle.host_views.specs.Plain.{PlainHostTree, PlainMutation, create, delete, update, plain_mutation}
+use Rattle.view_flatten.specs.declared.placing.Placed.{Placed}
+use Rattle.view_flatten.specs.Placed.{plain_place}
 use Rattle.view_mutation.specs.Mutations.{is_other_view}
 
--- the view that an index has at a tag
-abbrev pub indexed : BTreeMap ℕ (Arc HostView Global) → ℕ → Option HostView
-indexed index tag = option_map (λ view. view.value) (get nat_cmp index tag)
+-- the first place of a tag
+abbrev pub place_at : List Placed → ℕ → Option Placed
+place_at places tag = find (λ placed. nat_eq (plain_place placed).tag tag) places
+
+-- the place of a tag by an index of places
+abbrev pub place_by : BTreeMap ℕ ℕ → List Placed → ℕ → Option Placed
+place_by index places tag = option_and_then (λ at. slice_get places at) (get nat_cmp index tag)
+
+-- the view of a tag by an index of places
+abbrev pub indexed : BTreeMap ℕ ℕ → List Placed → ℕ → Option HostView
+indexed index places tag = option_map (λ placed. (plain_place placed).view) (place_by index places tag)
 
 -- deletes of the views whose tags are not known
 abbrev pub deletes_by : (ℕ → Option HostView) → PlainHostTree → List PlainMutation

@@ -1,37 +1,39 @@
 //! Removes and inserts: the children of each host parent.
 
-ghost use Rattle.std.specs.Prelude.{◌≡◌, ◌≤◌, ◌++◌, ℕ, [], ◌∷◌, length, map, drop, IfOk, OnOk};
+ghost use Rattle.std.specs.Prelude.{◌≡◌, ◌≤◌, ◌++◌, ℕ, [], ◌∷◌, length, drop, IfOk, OnOk};
 ghost use Rattle.std.specs.List.{flat_map};
-ghost use Rattle.host_views.specs.Plain.{children_at, host_tags, plain_placed};
+ghost use Rattle.host_views.specs.Plain.{children_at, host_tags};
+ghost use Rattle.view_flatten.specs.Placed.{plain_place, plain_places};
 ghost use Rattle.view_mutation.specs.Mutations.{common_prefix, inserts_from, removes_from};
 ghost use Rattle.view_mutation.specs.Children.{AreFew, inserts_by, listed, removes_by};
 ghost use Rattle.view_mutation.specs.Lookups.{IsListed};
 
-use host_views::{Mutation, PlacedView};
+use host_views::Mutation;
 use sqlite_items::Items;
 use std::alloc::{AllocError, Global};
 use std::collections::BTreeMap;
+use view_flatten::Placed;
 
 /// The tags of each host parent's children, in their order.
 pub type Children = BTreeMap<u32, Vec<u32>>;
 
 /// Adds a view to the children of its host parent, as the last one.
-fn add_child(children: &mut Children, placed: &PlacedView) -> Result<(), AllocError>
-    ensures { OnOk result ((parent : ℕ) → listed children.new parent ≡ listed children.old parent ++ children_at (plain_placed placed.now ∷ []) parent) }
+fn add_child(children: &mut Children, placed: &Placed<'_>) -> Result<(), AllocError>
+    ensures { OnOk result ((parent : ℕ) → listed children.new parent ≡ listed children.old parent ++ children_at (plain_place placed.now ∷ []) parent) }
 {
     children
         .entry(placed.parent)?
         .or_default()
-        .push(placed.tag)?;
+        .push(placed.tag())?;
     Ok(())
 }
 
 /// The children of each host parent of a tree.
-pub fn children_of(alloc: Global, views: &[PlacedView]) -> Result<Children, AllocError>
-    ensures { IfOk result (λ children. (parent : ℕ) → listed children parent ≡ children_at (map plain_placed views.now) parent) }
+pub fn children_of(alloc: Global, places: &[Placed<'_>]) -> Result<Children, AllocError>
+    ensures { IfOk result (λ children. (parent : ℕ) → listed children parent ≡ children_at (plain_places places.now) parent) }
 {
     let mut children = BTreeMap::new(alloc);
-    for placed in views {
+    for placed in places {
         add_child(&mut children, placed)?;
     }
     Ok(children)
@@ -101,16 +103,16 @@ fn add_removes_at(
 /// Adds the removes at each host parent of the old tree.
 pub fn add_removes(
     list: &mut Items<Mutation>,
-    views: &[PlacedView],
+    places: &[Placed<'_>],
     old: &Children,
     new: &Children,
 ) -> Result<(), AllocError>
     requires { AreFew (listed old.now) }
-    ensures { OnOk result (IsListed list.old (flat_map (removes_by (listed old.now) (listed new.now)) (0 ∷ host_tags (map plain_placed views.now))) list.new) }
+    ensures { OnOk result (IsListed list.old (flat_map (removes_by (listed old.now) (listed new.now)) (0 ∷ host_tags (plain_places places.now))) list.new) }
 {
     add_removes_at(list, old, new, 0)?;
-    for placed in views {
-        add_removes_at(list, old, new, placed.tag)?;
+    for placed in places {
+        add_removes_at(list, old, new, placed.tag())?;
     }
     Ok(())
 }
@@ -154,16 +156,16 @@ fn add_inserts_at(
 /// Adds the inserts at each host parent of the new tree.
 pub fn add_inserts(
     list: &mut Items<Mutation>,
-    views: &[PlacedView],
+    places: &[Placed<'_>],
     old: &Children,
     new: &Children,
 ) -> Result<(), AllocError>
     requires { AreFew (listed new.now) }
-    ensures { OnOk result (IsListed list.old (flat_map (inserts_by (listed old.now) (listed new.now)) (0 ∷ host_tags (map plain_placed views.now))) list.new) }
+    ensures { OnOk result (IsListed list.old (flat_map (inserts_by (listed old.now) (listed new.now)) (0 ∷ host_tags (plain_places places.now))) list.new) }
 {
     add_inserts_at(list, old, new, 0)?;
-    for placed in views {
-        add_inserts_at(list, old, new, placed.tag)?;
+    for placed in places {
+        add_inserts_at(list, old, new, placed.tag())?;
     }
     Ok(())
 }

@@ -1,11 +1,19 @@
 //! The mutations that lead from one host tree to another.
 #![tactic(auto)]
 
-ghost use Rattle.std.specs.Prelude.{◌≡◌, ◌≤◌, length, map, IfOk};
+ghost use Rattle.std.specs.Prelude.{◌≡◌, ◌≤◌, length, map, IfOk, OnOk};
+ghost use Rattle.std.specs.List.{All};
+ghost use Rattle.counts.specs.Raised.{raised};
 ghost use Rattle.tree_settle.specs.Limits.{IsForestInLimits};
-ghost use Rattle.host_views.specs.Plain.{plain_mutation, plain_placed};
+ghost use Rattle.shadow_node.specs.Entered.{AreAlikeSince, count_outside, is_kept_since, is_unchanged_since};
+ghost use Rattle.shadow_node.specs.Stamps.{stamp_in};
+ghost use Rattle.host_views.specs.Plain.{plain_mutation};
 ghost use Rattle.view_flatten.specs.HostTree.{host_tree_of};
+ghost use Rattle.view_flatten.specs.Placed.{plain_place, plain_places};
+ghost use Rattle.view_mutation.specs.Lookups.{place_at};
 ghost use Rattle.view_mutation.specs.Mutations.{mutations_between};
+ghost use Rattle.view_mutation.specs.SameSkipped.{IsSameAsBefore};
+ghost use Rattle.view_mutation.specs.Since.{AreTagged};
 
 mod children;
 pub mod laws;
@@ -14,32 +22,34 @@ mod tags;
 mod tests;
 
 use children::{add_inserts, add_removes, children_of};
-use host_views::{Mutation, PlacedView};
-use shadow_node::Forest;
+use host_views::Mutation;
+use shadow_node::{Forest, Stamps};
 use sqlite_items::Items;
 use std::alloc::{AllocError, Global};
 use tags::{add_creates, add_deletes, add_updates, index_of};
-use view_flatten::flatten;
+use view_flatten::{Placed, Places, Skip, places};
+pub use view_flatten::{Spot, Spots, Walk};
 
-/// The mutations between two host trees of at most 2,000 views.
+/// The mutations between the host trees of two lists of at most 2,000 places.
 fn mutations_of(
     alloc: Global,
-    old: &[PlacedView],
-    new: &[PlacedView],
+    old: &[Placed<'_>],
+    new: &[Placed<'_>],
 ) -> Result<Items<Mutation>, AllocError>
     requires old_count { length old.now ≤ 2000 }
     requires new_count { length new.now ≤ 2000 }
-    ensures { IfOk result (λ list. map plain_mutation list ≡ mutations_between (map plain_placed old.now) (map plain_placed new.now)) }
+    requires alike { All (λ is. IsSameAsBefore (place_at old.now (plain_place is).tag) is) new.now }
+    ensures { IfOk result (λ list. map plain_mutation list ≡ mutations_between (plain_places old.now) (plain_places new.now)) }
 {
     let old_children = children_of(alloc, old)?;
     let new_children = children_of(alloc, new)?;
-    let old_views = index_of(alloc, old)?;
-    let new_views = index_of(alloc, new)?;
+    let old_index = index_of(alloc, old)?;
+    let new_index = index_of(alloc, new)?;
     let mut list = Items::new(alloc);
     add_removes(&mut list, old, &old_children, &new_children)?;
-    add_deletes(&mut list, old, &new_views)?;
-    add_creates(&mut list, new, &old_views)?;
-    add_updates(&mut list, new, &old_views)?;
+    add_deletes(&mut list, old, new, &new_index)?;
+    add_creates(alloc, &mut list, new, old, &old_index)?;
+    add_updates(alloc, &mut list, new, old, &old_index)?;
     add_inserts(&mut list, new, &old_children, &new_children)?;
     Ok(list)
 }
@@ -50,7 +60,37 @@ pub fn mutations(alloc: Global, old: &Forest, new: &Forest) -> Result<Items<Muta
     requires new { IsForestInLimits new.now }
     ensures { IfOk result (λ list. map plain_mutation list ≡ mutations_between (host_tree_of old.now) (host_tree_of new.now)) }
 {
-    let old = flatten(alloc, old)?;
-    let new = flatten(alloc, new)?;
-    mutations_of(alloc, old.views.as_slice(), new.views.as_slice())
+    let stamps = Stamps::none();
+    let old = places(alloc, &mut Walk::over(old, &stamps), &Skip::Nothing)?;
+    let new = places(alloc, &mut Walk::over(new, &stamps), &Skip::Nothing)?;
+    mutations_of(alloc, &old.list, &new.list)
+}
+
+/// The mutations that lead from the host tree of one walk's forest to that of another's.
+///
+/// Contexts that are unchanged since the base are not entered, nor is what stands for them in the old
+/// forest: the two must be alike below them, and they must be shown in both or in neither. The call
+/// fails for want of memory alone.
+pub fn mutations_since(
+    alloc: Global,
+    base: u64,
+    old: &mut Walk<'_>,
+    new: &mut Walk<'_>,
+) -> Result<Items<Mutation>, AllocError>
+    requires old { IsForestInLimits old.old.forest }
+    requires old_tags { AreTagged old.old.forest }
+    requires new { IsForestInLimits new.old.forest }
+    requires new_tags { AreTagged new.old.forest }
+    requires alike { AreAlikeSince (stamp_in new.old.stamps) base old.old.forest new.old.forest }
+    ensures list { IfOk result (λ list. map plain_mutation list ≡ mutations_between (host_tree_of old.old.forest) (host_tree_of new.old.forest)) }
+    ensures old_entered { OnOk result (old.new ≡ record old.old { entered = raised old.old.entered (count_outside (is_kept_since (stamp_in new.old.stamps) base new.old.forest) old.old.forest) }) }
+    ensures new_entered { OnOk result (new.new ≡ record new.old { entered = raised new.old.entered (count_outside (is_unchanged_since (stamp_in new.old.stamps) base) new.old.forest) }) }
+{
+    let Places {
+        list: new_places,
+        mut skipped,
+    } = places(alloc, new, &Skip::Since(base))?;
+    skipped.sort()?;
+    let old_places = places(alloc, old, &Skip::Tags(&skipped))?;
+    mutations_of(alloc, &old_places.list, &new_places)
 }

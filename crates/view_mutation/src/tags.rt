@@ -1,130 +1,177 @@
-//! Deletes, creates and updates: the views by their tags.
+//! Deletes, creates and updates: the places by their tags.
 
-ghost use Rattle.std.specs.Prelude.{◌≡◌, ℕ, [], ◌∷◌, map, IfOk, OnOk, Option};
+ghost use Rattle.std.specs.Prelude.{◌≡◌, ℕ, [], ◌∷◌, IfOk, OnOk, Option};
+ghost use Rattle.std.specs.List.{All};
 ghost use Rattle.std.specs.Option.{option_copied, option_map};
-ghost use Rattle.host_views.specs.Plain.{plain_placed};
-ghost use Rattle.view_mutation.specs.Mutations.{is_other_view, view_at};
-ghost use Rattle.view_mutation.specs.Lookups.{IsListed, creates_by, deletes_by, indexed, updates_by};
+ghost use Rattle.host_views.specs.Same.{is_same_props, is_same_view};
+ghost use Rattle.view_flatten.specs.Placed.{plain_place, plain_places};
+ghost use Rattle.view_mutation.specs.Mutations.{is_other_view};
+ghost use Rattle.view_mutation.specs.Lookups.{IsListed, creates_by, deletes_by, indexed, place_at, place_by, updates_by};
+ghost use Rattle.view_mutation.specs.SameSkipped.{IsSameAsBefore, IsSameButOrigin};
 
-use host_views::{HostView, Mutation, PlacedView, ViewRef};
+use host_views::Mutation;
+use prop_table::NodeProps;
 use sqlite_items::Items;
 use std::alloc::{AllocError, Global};
 use std::collections::BTreeMap;
-use std::sync::Arc;
+use view_flatten::Placed;
 
-/// The views by their tags, the first one of each.
-pub fn index_of(alloc: Global, views: &[PlacedView]) -> Result<BTreeMap<u32, ViewRef>, AllocError>
-    ensures { IfOk result (λ index. (tag : ℕ) → indexed index tag ≡ view_at (map plain_placed views.now) tag) }
+/// Where the first place of each tag stands in a list.
+pub type Index = BTreeMap<u32, usize>;
+
+/// Where the first place of each tag stands.
+pub fn index_of(alloc: Global, places: &[Placed<'_>]) -> Result<Index, AllocError>
+    ensures { IfOk result (λ index. (tag : ℕ) → place_by index places.now tag ≡ place_at places.now tag) }
 {
     let mut index = BTreeMap::new(alloc);
-    for at in (0..views.len()).rev() {
-        let placed = &views[at];
-        index.insert(placed.tag, Arc::try_clone(&placed.view)?)?;
+    for at in (0..places.len()).rev() {
+        index.insert(places[at].tag(), at)?;
     }
     Ok(index)
+}
+
+/// The place of a tag, where it is known.
+fn place_of<'p, 'a>(places: &'p [Placed<'a>], index: &Index, tag: u32) -> Option<&'p Placed<'a>>
+    ensures { option_copied result ≡ place_by index.now places.now tag }
+{
+    let at = index.get(&tag)?;
+    places.get(*at)
 }
 
 /// Adds a delete, where the tag is not known.
 fn add_delete(
     list: &mut Items<Mutation>,
-    placed: &PlacedView,
-    known: &BTreeMap<u32, ViewRef>,
+    placed: &Placed<'_>,
+    known: &[Placed<'_>],
+    index: &Index,
 ) -> Result<(), AllocError>
-    ensures { OnOk result (IsListed list.old (deletes_by (indexed known.now) (plain_placed placed.now ∷ [])) list.new) }
+    ensures { OnOk result (IsListed list.old (deletes_by (indexed index.now known.now) (plain_place placed.now ∷ [])) list.new) }
 {
-    if known.get(&placed.tag).is_some() {
+    let tag = placed.tag();
+    if place_of(known, index, tag).is_some() {
         return Ok(());
     }
-    list.push(Mutation::Delete { tag: placed.tag })?;
+    list.push(Mutation::Delete { tag })?;
     Ok(())
 }
 
 /// Adds a delete of each view whose tag is not known.
 pub fn add_deletes(
     list: &mut Items<Mutation>,
-    old: &[PlacedView],
-    known: &BTreeMap<u32, ViewRef>,
+    old: &[Placed<'_>],
+    known: &[Placed<'_>],
+    index: &Index,
 ) -> Result<(), AllocError>
-    ensures { OnOk result (IsListed list.old (deletes_by (indexed known.now) (map plain_placed old.now)) list.new) }
+    ensures { OnOk result (IsListed list.old (deletes_by (indexed index.now known.now) (plain_places old.now)) list.new) }
 {
     for placed in old {
-        add_delete(list, placed, known)?;
+        add_delete(list, placed, known, index)?;
     }
     Ok(())
 }
 
 /// Adds a create, where the tag is not known.
 fn add_create(
+    alloc: Global,
     list: &mut Items<Mutation>,
-    placed: &PlacedView,
-    known: &BTreeMap<u32, ViewRef>,
+    placed: &Placed<'_>,
+    known: &[Placed<'_>],
+    index: &Index,
 ) -> Result<(), AllocError>
-    ensures { OnOk result (IsListed list.old (creates_by (indexed known.now) (plain_placed placed.now ∷ [])) list.new) }
+    ensures { OnOk result (IsListed list.old (creates_by (indexed index.now known.now) (plain_place placed.now ∷ [])) list.new) }
 {
-    if known.get(&placed.tag).is_some() {
+    let tag = placed.tag();
+    if place_of(known, index, tag).is_some() {
         return Ok(());
     }
-    let view = Arc::try_clone(&placed.view)?;
-    list.push(Mutation::Create {
-        tag: placed.tag,
-        view,
-    })?;
+    let view = placed.view(alloc)?;
+    list.push(Mutation::Create { tag, view })?;
     Ok(())
 }
 
 /// Adds a create of each view whose tag is not known.
 pub fn add_creates(
+    alloc: Global,
     list: &mut Items<Mutation>,
-    new: &[PlacedView],
-    known: &BTreeMap<u32, ViewRef>,
+    new: &[Placed<'_>],
+    known: &[Placed<'_>],
+    index: &Index,
 ) -> Result<(), AllocError>
-    ensures { OnOk result (IsListed list.old (creates_by (indexed known.now) (map plain_placed new.now)) list.new) }
+    ensures { OnOk result (IsListed list.old (creates_by (indexed index.now known.now) (plain_places new.now)) list.new) }
 {
     for placed in new {
-        add_create(list, placed, known)?;
+        add_create(alloc, list, placed, known, index)?;
     }
     Ok(())
 }
 
+/// Whether each row is the same.
+fn are_same_props(a: &NodeProps, b: &NodeProps) -> bool
+    ensures { result ≡ is_same_props a.now b.now }
+{
+    a.is_same(b)
+}
+
+/// Whether the views at two places are equal in every part. Those of nodes that were not entered
+/// differ at most in where they begin.
+fn is_same(was: &Placed<'_>, is: &Placed<'_>) -> bool
+    requires { IsSameButOrigin was.now is.now }
+    ensures { result ≡ is_same_view (plain_place was.now).view (plain_place is.now).view }
+{
+    if was.is_skipped && is.is_skipped {
+        return was.origin == is.origin;
+    }
+    was.spot.kind() == is.spot.kind()
+        && are_same_props(&was.spot.props(), &is.spot.props())
+        && was.spot.label().bytes() == is.spot.label().bytes()
+        && was.spot.state() == is.spot.state()
+        && was.frame() == is.frame()
+}
+
 /// Whether a view differs from the one that its tag had.
-fn is_other(was: Option<&ViewRef>, view: &HostView) -> bool
-    ensures { result ≡ is_other_view (option_map (λ was. was.value) (option_copied was.entry)) view.now }
+fn is_other(was: Option<&Placed<'_>>, is: &Placed<'_>) -> bool
+    requires { IsSameAsBefore (option_copied was) is.now }
+    ensures { result ≡ is_other_view (option_map (λ placed. (plain_place placed).view) (option_copied was.entry)) (plain_place is.now).view }
 {
     match was {
-        Some(was) => !was.is_same(view),
+        Some(was) => !is_same(was, is),
         None => false,
     }
 }
 
 /// Adds an update, where the view differs from what is known at its tag.
 fn add_update(
+    alloc: Global,
     list: &mut Items<Mutation>,
-    placed: &PlacedView,
-    known: &BTreeMap<u32, ViewRef>,
+    placed: &Placed<'_>,
+    known: &[Placed<'_>],
+    index: &Index,
 ) -> Result<(), AllocError>
-    ensures { OnOk result (IsListed list.old (updates_by (indexed known.now) (plain_placed placed.now ∷ [])) list.new) }
+    requires { IsSameAsBefore (place_by index.now known.now (plain_place placed.now).tag) placed.now }
+    ensures { OnOk result (IsListed list.old (updates_by (indexed index.now known.now) (plain_place placed.now ∷ [])) list.new) }
 {
-    if !is_other(known.get(&placed.tag), &placed.view) {
+    let tag = placed.tag();
+    if !is_other(place_of(known, index, tag), placed) {
         return Ok(());
     }
-    let view = Arc::try_clone(&placed.view)?;
-    list.push(Mutation::Update {
-        tag: placed.tag,
-        view,
-    })?;
+    let view = placed.view(alloc)?;
+    list.push(Mutation::Update { tag, view })?;
     Ok(())
 }
 
 /// Adds an update of each view that differs from what is known at its tag.
 pub fn add_updates(
+    alloc: Global,
     list: &mut Items<Mutation>,
-    new: &[PlacedView],
-    known: &BTreeMap<u32, ViewRef>,
+    new: &[Placed<'_>],
+    known: &[Placed<'_>],
+    index: &Index,
 ) -> Result<(), AllocError>
-    ensures { OnOk result (IsListed list.old (updates_by (indexed known.now) (map plain_placed new.now)) list.new) }
+    requires { All (λ placed. IsSameAsBefore (place_by index.now known.now (plain_place placed).tag) placed) new.now }
+    ensures { OnOk result (IsListed list.old (updates_by (indexed index.now known.now) (plain_places new.now)) list.new) }
 {
     for placed in new {
-        add_update(list, placed, known)?;
+        add_update(alloc, list, placed, known, index)?;
     }
     Ok(())
 }

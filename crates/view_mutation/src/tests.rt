@@ -1,64 +1,129 @@
-//! Host trees that are moved about.
+//! The mutations between small forests whose nodes look this way or that.
 
-ghost use Rattle.std.specs.Prelude.{◌≡◌, ◌≤◌, length, IfOk};
-ghost use Rattle.tree_settle.specs.Limits.{IsForestInLimits};
+ghost use Rattle.std.specs.Prelude.{◌≡◌, ◌≤◌, ◌<◌, ◌^◌, [], ◌∷◌, IfOk};
+ghost use Rattle.prop_table.specs.Table.{AreNodeProps};
+ghost use Rattle.shadow_node.specs.Falls.{forest_at};
+ghost use Rattle.tree_settle.specs.Limits.{IsForestInLimits, IsFrameInBounds};
+ghost use Rattle.view_mutation.specs.Since.{AreTagged};
 
-use crate::{mutations, mutations_of};
-use host_views::{HostView, Mutation, PlacedView};
-use prop_table::{Label, NODE_TABLE};
+use self::Look::{At, Clips, Drawn, Hidden};
+use crate::{Walk, mutations, mutations_since};
+use host_views::Mutation;
+use prop_table::{Label, NodeProps, node_table, rows};
 use shadow_frame::{Point, Rect, Size};
 use shadow_kinds::Kind;
-use shadow_node::Forest;
+use shadow_node::{Forest, Made, NodeRef, Parts, ShadowNode, Stamps};
 use sqlite_items::Items;
 use std::alloc::{AllocError, Global};
-use std::process::Abort;
-use std::sync::Arc;
 use std::test::Fail;
 
-/// A view in short: its tag, its host parent, its index there, and its width.
-type Short = (u32, u32, u32, u32);
+/// How a view looks.
+#[derive(Clone, Copy)]
+enum Look {
+    /// It has a host view, and is the host parent of none.
+    Drawn,
+    /// It has a host view, and is the host parent of what lies below it.
+    Clips,
+    /// The same, at that z.
+    At(i64),
+    /// It is not shown.
+    Hidden,
+}
 
-/// A placed view from its short form.
-fn placed(alloc: Global, short: Short) -> Result<PlacedView, AllocError> {
-    let (tag, parent, index, width) = short;
-    let view = HostView {
-        kind: Kind::View,
-        props: NODE_TABLE.start(),
-        label: Label::none(),
-        state: None,
-        frame: Rect {
-            origin: Point { x: 0, y: 0 },
-            size: Size {
-                width: i64::from(width),
-                height: 1,
-            },
-        },
+/// The props of a view that looks so.
+fn props_of(look: Look) -> NodeProps
+    ensures { AreNodeProps result }
+{
+    let table = node_table();
+    let start = table.start();
+    let (row, value) = match look {
+        Drawn => (rows::BORDER, 1),
+        Clips => (rows::CLIP, 1),
+        At(z) => (rows::Z, z),
+        Hidden => (rows::HIDDEN, 1),
     };
-    Ok(PlacedView {
-        tag,
-        parent,
-        index,
-        view: Arc::new(alloc, view)?,
-    })
-}
-
-/// The views of a tree.
-fn tree(alloc: Global, shorts: &[Short]) -> Result<Vec<PlacedView>, AllocError>
-    ensures { IfOk result (λ views. length views.items ≡ length shorts.now) }
-{
-    let mut views = Vec::new(alloc);
-    for short in shorts {
-        views.push(placed(alloc, *short)?)?;
+    match table.set(&start, row, Some(value)) {
+        Ok(props) => props,
+        Err(_) => start,
     }
-    Ok(views)
 }
 
-/// The mutations between two trees.
-fn between(alloc: Global, old: &[Short], new: &[Short]) -> Result<Items<Mutation>, AllocError>
-    requires old { length old.now ≤ 2000 }
-    requires new { length new.now ≤ 2000 }
+/// A view that begins that far right of its parent's corner, and as far above it.
+fn view(
+    alloc: Global,
+    made: &mut Made,
+    tag: u32,
+    left: u8,
+    look: Look,
+    children: Forest,
+) -> Result<NodeRef, AllocError>
+    requires low { 1 ≤ tag }
+    requires high { tag < 2 ^ 31 }
+    ensures tag { IfOk result (λ node. node.value.fields.fields.tag ≡ tag) }
+    ensures frame { IfOk result (λ node. IsFrameInBounds node.value.fields.frame) }
+    ensures children { IfOk result (λ node. node.value.children ≡ children) }
 {
-    mutations_of(alloc, &tree(alloc, old)?, &tree(alloc, new)?)
+    ShadowNode::make(
+        alloc,
+        made,
+        Parts {
+            tag,
+            kind: Kind::View,
+            props: props_of(look),
+            label: Label::none(),
+            state: None,
+            frame: Rect {
+                origin: Point {
+                    x: i64::from(left),
+                    y: -i64::from(left),
+                },
+                size: Size {
+                    width: 1,
+                    height: 1,
+                },
+            },
+            children,
+        },
+    )
+}
+
+/// The forest of two trees.
+fn pair(alloc: Global, first: NodeRef, second: NodeRef) -> Result<Forest, AllocError>
+    ensures { IfOk result (λ forest. forest ≡ forest_at (first ∷ second ∷ [])) }
+{
+    let mut nodes = Vec::new(alloc);
+    nodes.push(first)?;
+    nodes.push(second)?;
+    Forest::of(alloc, nodes)
+}
+
+/// The forest of one tree.
+fn alone(alloc: Global, tree: NodeRef) -> Result<Forest, AllocError>
+    ensures { IfOk result (λ forest. forest ≡ forest_at (tree ∷ [])) }
+{
+    let mut nodes = Vec::new(alloc);
+    nodes.push(tree)?;
+    Forest::of(alloc, nodes)
+}
+
+/// The view 1 with 2 and 5 in it, and 3 and 4 in 2, which begins that far right of the corner of 1.
+fn five_views(
+    alloc: Global,
+    made: &mut Made,
+    looks: [Look; 5],
+    left: u8,
+) -> Result<Forest, AllocError>
+    ensures limits { IfOk result IsForestInLimits }
+    ensures tags { IfOk result AreTagged }
+{
+    let [one, two, three, four, five] = looks;
+    let three = view(alloc, made, 3, 8, three, Forest::empty())?;
+    let four = view(alloc, made, 4, 16, four, Forest::empty())?;
+    let two = view(alloc, made, 2, left, two, pair(alloc, three, four)?)?;
+    let five = view(alloc, made, 5, 32, five, Forest::empty())?;
+    let one = view(alloc, made, 1, 2, one, pair(alloc, two, five)?)?;
+    let forest = alone(alloc, one)?;
+    Ok(forest)
 }
 
 /// A mutation in short: what it does, its parent where it has one, its tag, and its index or its view's width.
@@ -86,72 +151,84 @@ fn is_list(list: &Items<Mutation>, wanted: &[(char, u32, u32, i64)]) -> bool {
 }
 
 #[test]
-fn trees_of_one_level_lead_to_each_other(rt: HostRuntime) -> Result<(), Fail> {
+fn forests_lead_to_each_other(rt: HostRuntime) -> Result<(), Fail> {
     let alloc = rt.alloc();
-    let three = [(2, 0, 0, 1), (3, 0, 1, 1), (4, 0, 2, 1)];
-    assert!(rt; between(alloc, &three, &three)?.is_empty());
-    let reordered = between(alloc, &three, &[(2, 0, 0, 1), (4, 0, 1, 1), (3, 0, 2, 1)])?;
-    assert!(rt;
-        is_list(
-            &reordered,
+    let mut made = Made::start(&rt);
+    let shown = ([Clips, Clips, Drawn, Drawn, Drawn], 4);
+    let hidden = ([Clips, Clips, Hidden, Drawn, Drawn], 4);
+    let moved = ([Clips, Clips, Drawn, Drawn, Drawn], 7);
+    let first = ([Clips, At(1), Drawn, Drawn, At(2)], 4);
+    let last = ([Clips, At(2), Drawn, Drawn, At(1)], 4);
+    for (name, (old, old_left), (new, new_left), wanted) in [
+        ("the same", shown, shown, &[][..]),
+        (
+            "a view is hidden",
+            shown,
+            hidden,
             &[
-                ('r', 0, 4, 2),
-                ('r', 0, 3, 1),
-                ('i', 0, 4, 1),
-                ('i', 0, 3, 2)
-            ]
-        )
-    );
-    let wider = between(alloc, &three, &[(2, 0, 0, 1), (3, 0, 1, 9), (4, 0, 2, 1)])?;
-    assert!(rt; is_list(&wider, &[('u', 0, 3, 9)]));
+                ('r', 2, 4, 1),
+                ('r', 2, 3, 0),
+                ('d', 0, 3, 0),
+                ('i', 2, 4, 0),
+            ][..],
+        ),
+        (
+            "a view is shown again",
+            hidden,
+            shown,
+            &[
+                ('r', 2, 4, 0),
+                ('c', 0, 3, 1),
+                ('i', 2, 3, 0),
+                ('i', 2, 4, 1),
+            ][..],
+        ),
+        ("a context is moved", shown, moved, &[('u', 0, 2, 1)][..]),
+        (
+            "z in another order",
+            first,
+            last,
+            &[
+                ('r', 1, 5, 1),
+                ('r', 1, 2, 0),
+                ('u', 0, 5, 1),
+                ('u', 0, 2, 1),
+                ('i', 1, 5, 0),
+                ('i', 1, 2, 1),
+            ][..],
+        ),
+    ] {
+        let old = five_views(alloc, &mut made, old, old_left)?;
+        let new = five_views(alloc, &mut made, new, new_left)?;
+        assert!(rt; is_list(&mutations(alloc, &old, &new)?, wanted), "{name}");
+    }
     Ok(())
 }
 
-#[test]
-fn trees_of_two_levels_lead_to_each_other(rt: HostRuntime) -> Result<(), Fail> {
-    let alloc = rt.alloc();
-    let left = [(2, 0, 0, 1), (5, 2, 0, 1), (6, 2, 1, 1), (3, 0, 1, 1)];
-    let right = [(2, 0, 0, 1), (5, 2, 0, 1), (3, 0, 1, 1), (6, 3, 0, 1)];
-    let moved = between(alloc, &left, &right)?;
-    assert!(rt; is_list(&moved, &[('r', 2, 6, 1), ('i', 3, 6, 0)]));
-    let deleted = between(alloc, &left, &[(3, 0, 0, 1)])?;
-    let wanted = [
-        ('r', 0, 3, 1),
-        ('r', 0, 2, 0),
-        ('r', 2, 6, 1),
-        ('r', 2, 5, 0),
-        ('d', 0, 2, 0),
-        ('d', 0, 5, 0),
-        ('d', 0, 6, 0),
-        ('i', 0, 3, 0),
-    ];
-    assert!(rt; is_list(&deleted, &wanted));
-    let created = between(alloc, &[], &[(2, 0, 0, 7), (5, 2, 0, 8)])?;
-    assert!(rt;
-        is_list(
-            &created,
-            &[
-                ('c', 0, 2, 7),
-                ('c', 0, 5, 8),
-                ('i', 0, 2, 0),
-                ('i', 2, 5, 0)
-            ]
-        )
-    );
-    Ok(())
-}
-
-/// A forest without a node.
-#[tactic(auto, using(crate::proofs::NoNode::empty_in_limits))]
-fn no_node() -> Forest
-    ensures { IsForestInLimits result }
+/// How many nodes of each are entered between a forest and itself, where all its contexts are
+/// unchanged; and whether there are no mutations.
+fn entered_for_nothing(alloc: Global, forest: &Forest) -> Result<(u64, u64, bool), AllocError>
+    requires limits { IsForestInLimits forest.now }
+    requires tags { AreTagged forest.now }
 {
-    Forest::empty()
+    let stamps = Stamps::none();
+    let mut old = Walk::over(forest, &stamps);
+    let mut new = Walk::over(forest, &stamps);
+    let list = mutations_since(alloc, 0, &mut old, &mut new)?;
+    Ok((old.entered(), new.entered(), list.is_empty()))
 }
 
 #[test]
-fn two_forests_are_flattened_first(rt: HostRuntime) -> Result<(), Fail> {
-    let list = mutations(rt.alloc(), &no_node(), &no_node())?;
-    assert!(rt; list.is_empty());
+fn unchanged_contexts_are_not_entered(rt: HostRuntime) -> Result<(), Fail> {
+    let alloc = rt.alloc();
+    let mut made = Made::start(&rt);
+    for (looks, wanted) in [
+        ([Clips, Clips, Drawn, Drawn, Drawn], 0),
+        ([Drawn, Clips, Clips, Drawn, Drawn], 2),
+        ([Drawn, Hidden, Clips, Drawn, Drawn], 4),
+    ] {
+        let forest = five_views(alloc, &mut made, looks, 4)?;
+        assert!(rt; entered_for_nothing(alloc, &forest)? == (wanted, wanted, true));
+    }
     Ok(())
 }

@@ -3,11 +3,11 @@ use Rattle.std.specs.Prelude.{ℕ, List, [], ◌∷◌, codes}
 use Rattle.tree_build.specs.Script.{no_more}
 use Rattle.tree_revision.specs.Records.{complete}
 use Rattle.tree_revision.specs.Script.{PlainScript, commit, mount}
-use Rattle.worked_examples.specs.Words.{actor_of, lines, on_one, script_with}
+use Rattle.worked_examples.specs.Words.{actor_named, lines, on_one, script_with}
 
 abbrev pub script : PlainScript
 script = script_with 1
-    (actor_of (codes "js")
+    (actor_named (codes "js")
     (on_one (commit (complete no_more))
     ∷ on_one mount
     ∷ on_one mount

@@ -5,11 +5,11 @@ use Rattle.shadow_kinds.specs.declared.Kind.TheVariants.{View}
 use Rattle.tree_build.specs.Script.{no_more}
 use Rattle.tree_revision.specs.Records.{complete}
 use Rattle.tree_revision.specs.Script.{PlainScript, commit, mount}
-use Rattle.worked_examples.specs.Words.{actor_of, lines, on_one, script_with, written_node}
+use Rattle.worked_examples.specs.Words.{actor_named, lines, on_one, script_with, written_node}
 
 abbrev pub script : PlainScript
 script = script_with 1
-    (actor_of (codes "js")
+    (actor_named (codes "js")
     (on_one (commit (complete (written_node 2 View ((LEFT, pos 10) ∷ (TOP, pos 10) ∷ (WIDTH, pos 50) ∷ (HEIGHT, pos 50) ∷ [])
     (written_node 3 View ((LEFT, pos 5) ∷ (TOP, pos 5) ∷ (WIDTH, pos 10) ∷ (HEIGHT, pos 10) ∷ (BACKGROUND, pos 4278190080) ∷ [])
     no_more

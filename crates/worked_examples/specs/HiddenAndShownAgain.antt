@@ -5,20 +5,20 @@ use Rattle.shadow_kinds.specs.declared.Kind.TheVariants.{Text, View}
 use Rattle.tree_build.specs.Script.{no_more}
 use Rattle.tree_revision.specs.Records.{complete, props}
 use Rattle.tree_revision.specs.Script.{PlainScript, commit, mount}
-use Rattle.worked_examples.specs.Words.{actor_of, edit_of, lines, on_one, script_with, written_node}
+use Rattle.worked_examples.specs.Words.{actor_named, edit_of_rows, lines, on_one, script_with, written_node}
 
 abbrev pub script : PlainScript
 script = script_with 2
-    (actor_of (codes "js")
+    (actor_named (codes "js")
     (on_one (commit (complete (written_node 2 View ((LEFT, pos 10) ∷ (TOP, pos 10) ∷ (WIDTH, pos 50) ∷ (HEIGHT, pos 50) ∷ (HIDDEN, pos 1) ∷ [])
     (written_node 3 Text ((LEFT, pos 5) ∷ (TOP, pos 5) ∷ (WIDTH, pos 10) ∷ (HEIGHT, pos 10) ∷ [])
     no_more
     no_more)
     no_more)))
     ∷ on_one mount
-    ∷ on_one (commit (props 2 (edit_of ((HIDDEN, pos 0) ∷ []))))
+    ∷ on_one (commit (props 2 (edit_of_rows ((HIDDEN, pos 0) ∷ []))))
     ∷ on_one mount
-    ∷ on_one (commit (props 2 (edit_of ((HIDDEN, pos 1) ∷ []))))
+    ∷ on_one (commit (props 2 (edit_of_rows ((HIDDEN, pos 1) ∷ []))))
     ∷ on_one mount
     ∷ [])
     ∷ [])

@@ -4,11 +4,11 @@ use Rattle.shadow_kinds.specs.declared.Kind.TheVariants.{View}
 use Rattle.tree_build.specs.Script.{kept, no_more}
 use Rattle.tree_revision.specs.Records.{complete}
 use Rattle.tree_revision.specs.Script.{PlainScript, commit}
-use Rattle.worked_examples.specs.Words.{actor_of, lines, on_one, script_with, written_node}
+use Rattle.worked_examples.specs.Words.{actor_named, lines, on_one, script_with, written_node}
 
 abbrev pub script : PlainScript
 script = script_with 1
-    (actor_of (codes "js")
+    (actor_named (codes "js")
     (on_one (commit (complete (written_node 2 View ([])
     no_more
     no_more)))

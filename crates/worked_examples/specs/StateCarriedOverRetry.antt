@@ -6,17 +6,17 @@ use Rattle.native_state.specs.declared.StateChange.TheVariants.{Set}
 use Rattle.tree_build.specs.Script.{kept, no_more}
 use Rattle.tree_revision.specs.Records.{complete, state}
 use Rattle.tree_revision.specs.Script.{PlainScript, commit}
-use Rattle.worked_examples.specs.Words.{actor_of, lines, on_one, script_with, written_node}
+use Rattle.worked_examples.specs.Words.{actor_named, lines, on_one, script_with, written_node}
 
 abbrev pub script : PlainScript
 script = script_with 1
-    (actor_of (codes "js")
+    (actor_named (codes "js")
     (on_one (commit (complete (written_node 7 Scroll ((WIDTH, pos 100) ∷ (HEIGHT, pos 100) ∷ [])
     no_more
     no_more)))
     ∷ on_one (commit (complete (kept 7 None no_more)))
     ∷ [])
-    ∷ actor_of (codes "ui")
+    ∷ actor_named (codes "ui")
     (on_one (commit (state 7 (Set (record { x = pos 0; y = pos 40 }))))
     ∷ [])
     ∷ [])

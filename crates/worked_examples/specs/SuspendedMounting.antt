@@ -5,17 +5,17 @@ use Rattle.shadow_kinds.specs.declared.Kind.TheVariants.{Text}
 use Rattle.tree_build.specs.Script.{no_more}
 use Rattle.tree_revision.specs.Records.{complete, props, resume, suspend}
 use Rattle.tree_revision.specs.Script.{PlainScript, commit, mount}
-use Rattle.worked_examples.specs.Words.{actor_of, edit_of, lines, on_one, script_with, written_node}
+use Rattle.worked_examples.specs.Words.{actor_named, edit_of_rows, lines, on_one, script_with, written_node}
 
 abbrev pub script : PlainScript
 script = script_with 2
-    (actor_of (codes "js")
+    (actor_named (codes "js")
     (on_one (commit (complete (written_node 2 Text ((WIDTH, pos 10) ∷ [])
     no_more
     no_more)))
     ∷ on_one mount
     ∷ on_one (commit suspend)
-    ∷ on_one (commit (props 2 (edit_of ((WIDTH, pos 20) ∷ []))))
+    ∷ on_one (commit (props 2 (edit_of_rows ((WIDTH, pos 20) ∷ []))))
     ∷ on_one mount
     ∷ on_one (commit resume)
     ∷ on_one mount

@@ -6,19 +6,19 @@ use Rattle.native_state.specs.declared.StateChange.TheVariants.{Add}
 use Rattle.tree_build.specs.Script.{no_more}
 use Rattle.tree_revision.specs.Records.{complete, state}
 use Rattle.tree_revision.specs.Script.{PlainScript, commit}
-use Rattle.worked_examples.specs.Words.{actor_of, lines, on_one, script_with, written_node}
+use Rattle.worked_examples.specs.Words.{actor_named, lines, on_one, script_with, written_node}
 
 abbrev pub script : PlainScript
 script = script_with 1
-    (actor_of (codes "js")
+    (actor_named (codes "js")
     (on_one (commit (complete (written_node 7 Scroll ((WIDTH, pos 100) ∷ (HEIGHT, pos 100) ∷ [])
     no_more
     no_more)))
     ∷ [])
-    ∷ actor_of (codes "a")
+    ∷ actor_named (codes "a")
     (on_one (commit (state 7 (Add (record { x = pos 0; y = pos 10 }))))
     ∷ [])
-    ∷ actor_of (codes "b")
+    ∷ actor_named (codes "b")
     (on_one (commit (state 7 (Add (record { x = pos 0; y = pos 10 }))))
     ∷ [])
     ∷ [])

@@ -18,16 +18,16 @@ written_node tag kind rows children siblings =
     written (record { tag = tag; kind = kind; props = with_rows rows; label = [] }) children siblings
 
 -- a change of those rows
-abbrev pub edit_of : List (ℕ × ℤ) → NodeEdit
-edit_of rows = record { rows = fold (λ edit row. slice_set edit row.0 (Some (Some row.1))) (replicate 22 None) rows; label = None }
+abbrev pub edit_of_rows : List (ℕ × ℤ) → NodeEdit
+edit_of_rows rows = record { rows = fold (λ edit row. slice_set edit row.0 (Some (Some row.1))) (replicate 22 None) rows; label = None }
 
 -- a step on surface 1
 abbrev pub on_one : PlainAct → PlainStep
 on_one act = record { surface = 1; act = act }
 
 -- an actor of that name with those steps
-abbrev pub actor_of : List ℕ → List PlainStep → PlainActor
-actor_of name steps = record { name = name; steps = steps }
+abbrev pub actor_named : List ℕ → List PlainStep → PlainActor
+actor_named name steps = record { name = name; steps = steps }
 
 -- a script of that version with surface 1, of 100 by 100 points
 abbrev pub script_with : ℕ → List PlainActor → List ℕ → PlainScript

@@ -25,6 +25,9 @@ loop-rest-preserved c =
       pages = c.in_ok-push_page.ensures.pages;
       rises = rw c.split_at.ensures.back (rising_right (take 32 rest) (drop 32 rest) (rw take-append-drop c.loop-rest.invariant.rises));
       some = omega arith;
+      one = λ few. absurd (omega (arith, c.loop-rest.invariant.short));
+      half_full = λ enough were. c.in_ok-push_page.ensures.half_full (omega arith) (c.loop-rest.invariant.half_full enough were);
+      wide = λ _. omega arith;
       short = omega arith;
       made = c.in_ok-push_page.ensures.made ∙ ap (λ made. families_more made (length c.split_at.result.0.now)) c.loop-rest.invariant.made ∙ families_more-more c.args.made.now _ _ _ (omega arith);
     }

@@ -1,6 +1,12 @@
-use Rattle.run_engine.proofs.Closing.{closing_some}
-use Rattle.run_engine.proofs.Events.{finish_some}
+use Rattle.run_engine.proofs.Closing.{closing_none, closing_some}
+use Rattle.run_engine.proofs.Events.{finish_none, finish_some}
 use Rattle.run_engine.proofs.desks.with_closing.Goals as goal
+
+pub returns-in-None : goal.returns-in-None
+returns-in-None c first records passages stands mounted last along =
+    closing_none first records passages c.args.coordinator c.finish.new.self c.args.mounts
+    (finish_none first records c.args.coordinator c.finish.new.self c.in_ok-finish.field-0 c.in-None.is (c.in_ok-finish.ensures first records stands mounted))
+    last along
 
 pub returns : goal.returns
 returns c first records passages stands mounted last along =

@@ -16,4 +16,4 @@ returns g c =
     let some : c.args.label.now ≡ [] → ⊥ = λ e. search rules in
     rw (label_text_some c.args.label.now some)
     (then_rest _ _ _ (codes " label=") _ _ c.in_ok-write_whole.ensures
-    (rw c.bytes-bytes.ensures at c.write_hex.ensures))
+    (rw c.bytes-bytes.ensures.bytes at c.write_hex.ensures))

@@ -2,7 +2,7 @@ use Rattle.std.proofs.Common.{◌≡◌, All, map, take}
 use Rattle.serde_json.specs.View.{view}
 use Rattle.script_read.specs.Plain.{plain_actor}
 use Rattle.script_read.specs.Writing.{actor_json}
-use Rattle.script_read.specs.Writable.{IsActFit}
+use Rattle.script_read.specs.Fits.{IsActFit}
 use Rattle.script_read.proofs.writing.actor_values.Given as goal
 
 abbrev pub invariant-loop-actor : goal.invariant-loop-actor

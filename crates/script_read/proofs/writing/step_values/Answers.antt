@@ -2,7 +2,7 @@ use Rattle.std.proofs.Common.{rules, subst}
 use Rattle.std.proofs.lemmas.List.Elements.{All-more}
 use Rattle.script_read.specs.Plain.{plain_step}
 use Rattle.script_read.specs.Writing.{step_json}
-use Rattle.script_read.specs.Writable.{IsActFit}
+use Rattle.script_read.specs.Fits.{IsActFit}
 use Rattle.script_read.proofs.ValueLists.{value_pushed, all_plain_values, all_fit}
 use Rattle.script_read.proofs.writing.step_values.Goals as goal
 

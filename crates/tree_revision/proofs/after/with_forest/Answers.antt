@@ -1,5 +1,6 @@
-use Rattle.std.proofs.Common.{◌+◌, sym, ap, subst, ◌∙◌, arith}
+use Rattle.std.proofs.Common.{◌≡◌, ◌+◌, ◌-◌, ◌*◌, sym, ap, subst, ◌∙◌, arith}
 use Rattle.std.specs.Option.{option_and_then}
+use Rattle.std.specs.FinMap.{len}
 use Rattle.std.proofs.lemmas.Result.{err_from_is_err_and}
 use Rattle.shadow_node.specs.Forest.{preorder}
 use Rattle.shadow_node.specs.Fields.{contents_of}
@@ -7,6 +8,9 @@ use Rattle.tree_build.specs.Script.{script_forest}
 use Rattle.tree_build.specs.Resolved.{resolved}
 use Rattle.tree_build.specs.Refusals.{build_refusal_of}
 use Rattle.tree_build.specs.Built.{built}
+use Rattle.native_state.specs.Families.{cell_in}
+use Rattle.tree_settle.specs.Changes.{changes_in}
+use Rattle.counts.specs.Raised.{raised}
 use Rattle.tree_revision.specs.Cancels.{cancel_for}
 use Rattle.tree_revision.specs.Prepared.{families_grown, new_nodes}
 use Rattle.tree_revision.specs.Steps.{AreCountsWithin, IsFor, growth_cause, settled_next}
@@ -48,4 +52,21 @@ returns-clause-next c =
     let contents = c.in_ok-forest.ensures.contents ∙ ap (λ r. resolved (contents_of r.forest) nodes) c.held.view_is in
     let forest = c.in_ok-forest.ensures.forest ∙ ap (λ r. built r.forest nodes) c.held.view_is in
     let families = c.in_ok-families.ensures.families ∙ (λ i. families_grown (c.front.view_is i).families (preorder (contents i))) in
-    c.in_ok-settled.ensures.content ∙ (λ i. settled_next front (c.front.view_is i).size (families i) (forest i))
+    c.in_ok-settled.ensures.content ∙ (λ i. settled_next front (c.front.view_is i).size (families i) (forest i) c.in_ok-settled.field-0.stamps)
+
+pub returns-clause-made : goal.returns-clause-made
+returns-clause-made c =
+    let nodes = script_forest c.args.nodes.now in
+    let next = c.in_ok-settled.field-0 in
+    let forest = c.in_ok-forest.ensures.forest ∙ ap (λ r. built r.forest nodes) c.held.view_is in
+    let grown = c.in_ok-families.ensures.made in
+    let settled = c.in_ok-settled.ensures.made in
+    let first = ap (λ m. m.nodes) c.in_ok-forest.ensures.made in
+    let families : next.families ≡ c.in_ok-families.families = ap (λ r. r.families) c.in_ok-settled.ensures.content in
+    let most : 65 * (len c.in_ok-families.families - len c.front.inside.families) ≡ 65 * (len next.families - len c.args.front.now.families) =
+    λ i. 65 * (len (sym families i) - len (c.front.view_is i).families) in
+    record {
+      nodes = ap (λ m. m.nodes) settled ∙ (λ i. raised ((grown.nodes ∙ first) i) (changes_in next.size (cell_in next.families) (forest i)));
+      families = omega (arith, grown.never_falls, ap (λ m. m.families) settled, ap (λ m. m.families) c.in_ok-forest.ensures.made);
+      families_most = omega (arith, grown.at_most, ap (λ m. m.families) settled, ap (λ m. m.families) c.in_ok-forest.ensures.made, most);
+    }

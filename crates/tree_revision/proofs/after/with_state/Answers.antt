@@ -1,8 +1,8 @@
 use Rattle.std.proofs.Common.{◌+◌, true, false, sym, ap, subst, ◌∙◌}
 use Rattle.std.proofs.lemmas.Result.{err_from_is_err_and}
+use Rattle.native_state.specs.Families.{cell_in}
 use Rattle.shadow_kinds.specs.Traits.{has_state_of}
 use Rattle.shadow_node.specs.Find.{first_settled}
-use Rattle.tree_settle.specs.Changes.{cell_in}
 use Rattle.tree_revision.specs.Cancels.{stale}
 use Rattle.tree_revision.specs.Steps.{AreCountsWithin, IsFor, families_changed}
 use Rattle.tree_revision.proofs.Refused.{state_unmounted, state_mounted}

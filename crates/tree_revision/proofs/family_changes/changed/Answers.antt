@@ -8,4 +8,4 @@ returns-in_ok-with_cell-in-Ok-clause-families c =
     let change = c.args.change in
     let applied_is = sym c.in-Ok.ensures in
     c.in_ok-with_cell-in-Ok.ensures.families
-    ∙ families_with_changed c.args.tag change c.args.families.now c.in-Ok.cell (cell_applied change c.cell_of.result c.in-Ok.cell applied_is ∙ ap (cell_after change) c.cell_of.ensures)
+    ∙ families_with_changed c.args.tag change c.args.families.now c.in-Ok.cell (cell_applied change c.cell.result c.in-Ok.cell applied_is ∙ ap (cell_after change) c.cell.ensures)

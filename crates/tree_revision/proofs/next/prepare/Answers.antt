@@ -3,13 +3,13 @@ use Rattle.std.specs.Prelude.{unwrap_or}
 use Rattle.std.specs.Option.{option_map}
 use Rattle.std.proofs.lemmas.Result.{err_from_is_err_and}
 use Rattle.tree_revision.specs.InRange.{IsOpInRange}
-use Rattle.tree_revision.specs.Prepared.{cause_in, content_next, kept_next, mountable_next}
+use Rattle.tree_revision.specs.Prepared.{AreNextStamps, cause_in, content_next, mountable_next}
 use Rattle.tree_revision.specs.Records.{plain_op}
-use Rattle.tree_revision.specs.Settled.{KeptRevision}
+use Rattle.tree_revision.specs.Settled.{SettledRevision, KeptRevision}
 use Rattle.tree_revision.specs.Stands.{StandsFor}
 use Rattle.tree_revision.specs.Steps.{IsFor}
 use Rattle.tree_revision.proofs.Refused.{cause_known}
-use Rattle.tree_revision.proofs.Standing.{causes_agree, next_stands}
+use Rattle.tree_revision.proofs.Standing.{causes_agree, kept_next, next_stands}
 use Rattle.tree_revision.proofs.next.prepare.Goals as goal
 
 pub returns-in_err-content-clause-cancelled : goal.returns-in_err-content-clause-cancelled
@@ -32,9 +32,13 @@ returns-clause-next c = λ first entries entry front_stands within held_stands o
     let content = c.in_ok-content.content in
     let seen : cause_in op c.front.inside.content c.held.inside.content ≡ cause_in op front.newest held.newest = λ i. cause_in op (c.front.view_is i).newest (c.held.view_is i).newest in
     let uncancelled = ap (λ o. cause_in o front.newest held.newest) op_is ∙ sym seen ∙ c.in_ok-content.ensures.uncancelled in
-    let newest : content ≡ content_next op front.newest held.newest = c.in_ok-content.ensures.next ∙ (λ i. content_next op (c.front.view_is i).newest (c.held.view_is i).newest) in
+    let stamps = content.stamps in
+    let newest : content ≡ content_next op front.newest held.newest stamps = c.in_ok-content.ensures.next ∙ (λ i. content_next op (c.front.view_is i).newest (c.held.view_is i).newest stamps) in
+    let are : AreNextStamps front.newest (content_next op front.newest held.newest stamps) =
+    subst (λ (t : SettledRevision × SettledRevision). AreNextStamps t.0 t.1) (λ i. ((c.front.view_is i).newest, newest i)) c.in_ok-content.ensures.stamps in
     let mountable = c.in_ok-still.ensures.mountable content ∙ ap (mountable_next op front) newest in
     let next : KeptRevision = record { newest = content; mountable = unwrap_or (option_map (λ still. still.value) c.in_ok-still.still) content } in
-    let value : next ≡ kept_next op front held = λ i. record { newest = newest i; mountable = mountable i } in
-    subst (λ next. StandsFor first next (entries ++ entry ∷ [])) (ap (λ o. kept_next o front held) op_is ∙ sym value)
-    (next_stands first front held entries entry (subst IsOpInRange (sym op_is) c.requires.op) front_stands within held_stands uncancelled)
+    let value : next ≡ kept_next op front held stamps = λ i. record { newest = newest i; mountable = mountable i } in
+    subst (λ next. StandsFor first next (entries ++ entry ∷ [])) (ap (λ o. kept_next o front held stamps) op_is ∙ sym value)
+    (next_stands first front held stamps entries entry (subst IsOpInRange (sym op_is) c.requires.op) front_stands within held_stands uncancelled
+    (subst (λ o. AreNextStamps front.newest (content_next o front.newest held.newest stamps)) (sym op_is) are))

@@ -1,10 +1,11 @@
 use Rattle.std.proofs.Common.{rules, arith, ◌≡◌, ◌+◌, ◌<◌, ◌≤◌, ◌∙◌, ap, refl, sym, subst, length, take, drop}
+use Rattle.native_state.specs.Families.{cell_in}
 use Rattle.shadow_kinds.specs.Traits.{is_leaf_of}
 use Rattle.shadow_node.specs.Forest.{PlainForest, node_count}
 use Rattle.shadow_node.specs.Fields.{SettledFields, contents_of}
 use Rattle.shadow_node.specs.Falls.{trees_of, forest_at}
 use Rattle.shadow_node.proofs.Trees.{forest_at-drop}
-use Rattle.tree_settle.specs.Changes.{cell_in, changes_in}
+use Rattle.tree_settle.specs.Changes.{changes_in}
 use Rattle.tree_settle.specs.Limits.{AreFramesInBounds}
 use Rattle.tree_settle.specs.Walk.{begun_or, changes_of, settled_in}
 use Rattle.tree_settle.proofs.Settled.{FitsLeaf-settled}

@@ -1,11 +1,12 @@
 use Rattle.std.proofs.Common.{◌≡◌, ◌+◌, ◌*◌, ◌≤◌, drop, take, length}
 use Rattle.std.specs.Prelude.{nat_lt}
+use Rattle.native_state.specs.Families.{cell_in}
 use Rattle.native_state.specs.Made.{nodes_more}
 use Rattle.shadow_node.specs.Forest.{depth_of, node_count}
 use Rattle.shadow_node.specs.Fields.{contents_of}
 use Rattle.shadow_node.specs.Falls.{trees_of, forest_at}
 use Rattle.shadow_node.proofs.Trees.{trees_before}
-use Rattle.tree_settle.specs.Changes.{cell_in, changes_in}
+use Rattle.tree_settle.specs.Changes.{changes_in}
 use Rattle.tree_settle.specs.Limits.{AreFramesInBounds}
 use Rattle.tree_settle.specs.Walk.{HasRoom, begun_or, settled_in}
 use Rattle.tree_settle.proofs.walk.+settle.Given as goal

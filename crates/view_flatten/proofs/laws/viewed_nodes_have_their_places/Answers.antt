@@ -1,4 +1,4 @@
-use Rattle.view_flatten.proofs.Places.{each_viewed_has_place}
+use Rattle.view_flatten.proofs.Viewed.{each_viewed_has_place}
 use Rattle.view_flatten.proofs.laws.viewed_nodes_have_their_places.Goals as goal
 
 pub returns : goal.returns

@@ -1,4 +1,4 @@
-use Rattle.view_flatten.proofs.Places.{each_view_of_one}
+use Rattle.view_flatten.proofs.Viewed.{each_view_of_one}
 use Rattle.view_flatten.proofs.laws.views_are_of_nodes.Goals as goal
 
 pub returns : goal.returns

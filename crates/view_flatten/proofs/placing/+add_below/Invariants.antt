@@ -1,7 +1,8 @@
-use Rattle.std.proofs.Common.{◌≡◌, ◌-◌, ◌≤◌, ◌++◌, length, map, drop}
-use Rattle.host_views.specs.Plain.{plain_placed}
-use Rattle.view_flatten.specs.Placing.{blocks_below, placed_spots, tree_below}
-use Rattle.view_flatten.specs.Spots.{plain_spots}
+use Rattle.std.proofs.Common.{◌≡◌, ◌-◌, ◌≤◌, ◌++◌, Bool, length, drop}
+use Rattle.shadow_node.specs.Fields.{SettledFields}
+use Rattle.view_flatten.specs.Placed.{AreMarked, plain_places}
+use Rattle.view_flatten.specs.Placing.{blocks_below, placed_sites, tree_below}
+use Rattle.view_flatten.specs.Sites.{AreSitesMarked, plain_sites}
 use Rattle.view_flatten.proofs.placing.+add_below.Given as goal
 
 abbrev pub decreases-add_below : goal.decreases-add_below
@@ -9,7 +10,9 @@ decreases-add_below l = l.levels
 
 abbrev pub invariant-loop-index : goal.invariant-loop-index
 invariant-loop-index l = record {
-  left : map plain_placed l.views ++ blocks_below (l.levels - 1) (plain_spots l.spots) (placed_spots l.parent l.index (plain_spots (drop l.index l.spot-items)))
-      ≡ map plain_placed l.initial.views ++ tree_below l.levels (plain_spots l.spots) l.parent;
-  len : length l.spot-items ≤ length l.spots;
+  left : plain_places l.places.items ++ blocks_below (l.levels - 1) (plain_sites l.sites) (placed_sites l.parent l.index (plain_sites (drop l.index l.site-items)))
+      ≡ plain_places l.initial.places.items ++ tree_below l.levels (plain_sites l.sites) l.parent;
+  sites : (test : SettledFields → Bool) → AreSitesMarked test l.sites → AreSitesMarked test l.site-items;
+  places : (test : SettledFields → Bool) → AreSitesMarked test l.sites → AreMarked test l.initial.places.items → AreMarked test l.places.items;
+  len : length l.site-items ≤ length l.sites;
 }

@@ -14,6 +14,6 @@ pub returns-clause-map : goal.returns-clause-map
 returns-clause-map c =
     let kept = joined c.self.inside.pages.value.items in
     let new = c.args.new.now in
-    let placed = rw (c.deref-2.ensures.value, c.deref.ensures) at c.in_ok-pages.ensures.joined in
-    let is = ap (from_sorted {R = nat_cmp}) placed ∙ from_sorted-all_put kept new c.self.invariant.rises ∙ ap (λ map. all_added map new) c.self.view_is in
+    let joined_are = rw (c.deref-2.ensures.value, c.deref.ensures) at c.in_ok-pages.ensures.joined in
+    let is = ap (from_sorted {R = nat_cmp}) joined_are ∙ from_sorted-all_put kept new c.self.invariant.rises ∙ ap (λ map. all_added map new) c.self.view_is in
     subst (λ map. IfOk c.of.result (λ table. table ≡ map)) is c.of.ensures

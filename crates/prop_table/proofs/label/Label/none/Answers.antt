@@ -1,0 +1,9 @@
+use Rattle.std.proofs.Common.{[], arith}
+use Rattle.std.proofs.lemmas.Str.{IsUtf8-nil, is_utf8-from_IsUtf8}
+use Rattle.prop_table.proofs.label.Label.none.Goals as goal
+
+pub invariant_of-result : goal.invariant_of-result
+invariant_of-result c = record {
+  short = omega arith;
+  utf8 = is_utf8-from_IsUtf8 [] IsUtf8-nil;
+}

@@ -1,0 +1,32 @@
+//! Which nodes a walk does not enter.
+
+ghost use Rattle.std.specs.Prelude.{◌≡◌};
+ghost use Rattle.view_flatten.specs.Skips.{DoTagsRise, skips};
+
+use crate::walks::Spot;
+use shadow_kinds::forms_context;
+
+/// Which nodes a walk does not enter.
+#[derive(Clone, Copy)]
+pub enum Skip<'a> {
+    /// Each node is entered.
+    Nothing,
+    /// Contexts whose stamp is at most that base are not entered.
+    Since(u64),
+    /// Nodes of these tags, which rise, are not entered.
+    Tags(&'a [u32]),
+}
+
+impl<'a> Skip<'a> {
+    /// Whether a node is not entered. It takes time in log n for n tags.
+    pub(crate) fn skips(&self, spot: &Spot) -> bool
+        requires { DoTagsRise self.now }
+        ensures { result ≡ skips self.now spot.now.stamps spot.now.tree.fields }
+    {
+        match self {
+            Skip::Nothing => false,
+            Skip::Since(base) => forms_context(spot.kind(), &spot.props()) && spot.stamp() <= *base,
+            Skip::Tags(tags) => tags.binary_search(&spot.tag()).is_ok(),
+        }
+    }
+}
