@@ -1,23 +1,20 @@
 -- The events of a commit, from what the port answers.
-use Rattle.std.proofs.Common.{◌≡◌, ℕ, ◌-◌, ◌≤◌, List, [], ◌∷◌, ◌++◌, length, take, drop, arith, refl, ap, sym, ◌∙◌, subst, length-append, append_assoc, inr}
+use Rattle.std.proofs.Common.{◌≡◌, ℕ, ◌+◌, ◌-◌, ◌≤◌, ◌<◌, List, [], ◌∷◌, ◌++◌, length, take, drop, arith, refl, ap, sym, ◌∙◌, subst, length-append, append_assoc, inr}
 use Rattle.std.proofs.lemmas.List.{take-append-drop, take-append-le, append-nil}
-use Rattle.std.specs.Prelude.{Some}
+use Rattle.std.specs.Prelude.{◌≢◌, Option, Some, None}
 use Rattle.shadow_frame.specs.declared.Size.{Size}
-use Rattle.counts.specs.Raised.{raised}
 use Rattle.tree_revision.specs.declared.record.Op.{Op}
-use Rattle.tree_revision.specs.declared.record.Record.{Record}
 use Rattle.tree_revision.specs.declared.record.Cancel.{Cancel}
-use Rattle.tree_revision.specs.Records.{PlainRecord, plain_op, plain_record}
+use Rattle.tree_revision.specs.Records.{PlainRecord, plain_op}
 use Rattle.tree_revision.specs.Cancels.{cancel_of}
 use Rattle.tree_revision.specs.Lawful.{MayFollow, MayAllFollow}
 use Rattle.tree_revision.specs.Settled.{KeptRevision}
 use Rattle.tree_revision.specs.Stands.{StandsFor}
-use Rattle.tree_revision.specs.Ports.{Told, BeginsWith, Lasts, IsLook, IsOffer}
-use Rattle.commit_core.specs.declared.committer.Phase.{Phase}
-use Rattle.commit_core.specs.declared.committer.Phase.TheVariants.{Fresh, Ready, Ended}
-use Rattle.commit_core.specs.declared.committer.Committer.{Committer}
+use Rattle.tree_revision.specs.Ports.{Told, BeginsWith, Lasts, IsLook, IsOffer, Stays}
 use Rattle.commit_core.specs.declared.committer.Progress.{Progress}
-use Rattle.commit_core.specs.Events.{MayBeTried, IsClearLook, IsCancelledLook, IsAdmittedOffer, IsLookInVain, IsReadyFor, IsEvent, committer_in}
+use Rattle.commit_core.specs.declared.committer.Progress.TheVariants.{Looked, Again, Busy, Done, Memory}
+use Rattle.commit_core.specs.Commit.{CommitPhase, fresh, ready, over, PlainCommit, commit_in, look_in, looked_at}
+use Rattle.commit_core.specs.Events.{MayBeTried, MayLook, MayOffer, IsClearLook, IsCancelledLook, IsAdmittedOffer, IsFoundBehind, IsLateOffer, IsLookInVain, IsReadyIn, IsReadyFor, IsEvent}
 
 -- the first of some records, of which more came
 pub take_begins : (longer shorter : List PlainRecord) (count : ℕ) → BeginsWith longer shorter → count ≤ length shorter → take count longer ≡ take count shorter
@@ -44,82 +41,154 @@ last_follows first before [] entry all = subst (λ list. MayFollow first list en
 last_follows first before (e ∷ entries) entry all =
     subst (λ list. MayFollow first list entry) (append_assoc before (e ∷ []) entries) (last_follows first (before ++ e ∷ []) entries entry all.1)
 
-pub clear_look : (old new : Told) (committer : Committer) (entry : Record) (op : Op) (front next now : KeptRevision) (tries number : ℕ)
-    → MayBeTried old.first old.seen committer.held (plain_record entry) → Lasts old new → IsLook old new front
-    → op ≡ entry.op.value
+-- a commit that may look stays so as the port goes on
+pub look_later : (old new : Told) (held : KeptRevision) (tries : ℕ) (entry : PlainRecord) → Lasts old new
+    → MayLook old held tries entry → MayLook new held tries entry
+look_later old new held tries entry lasts may = record {
+  may = subst (λ first. MayBeTried first new.seen held entry) (sym lasts.first) (tried_later old.first new.seen old.seen held entry lasts.seen may.may);
+  looks = omega (arith, may.looks, lasts.floor);
+}
+
+-- a commit that may be offered stays so while nothing more is seen
+pub offer_later : (old new : Told) (held : KeptRevision) (tries : ℕ) (entry : PlainRecord) (next : KeptRevision) → Lasts old new → new.seen ≡ old.seen
+    → MayOffer old held tries entry next → MayOffer new held tries entry next
+offer_later old new held tries entry next lasts same may = record {
+  may = rw (lasts.first, same) may.may;
+  stands = rw (lasts.first, same) may.stands;
+  looks = omega (arith, may.looks, ap length same);
+}
+
+abbrev IsFound : {A : Type 0} → Option A → Type 0
+IsFound (Some x) = Unit {0}
+IsFound None = ⊥
+
+in_phase_looks : (old new : Told) (held : KeptRevision) (tries : ℕ) (phase : CommitPhase) → Lasts old new → look_in phase ≡ None
+    → IsReadyIn old held tries phase → IsReadyIn new held tries phase
+in_phase_looks old new held tries (fresh entry) lasts none may = look_later old new held tries entry lasts may
+in_phase_looks old new held tries (ready entry next) lasts none may = absurd (subst IsFound none tt)
+in_phase_looks old new held tries over lasts none may = absurd may
+
+in_phase_ready : (old new : Told) (held : KeptRevision) (tries : ℕ) (phase : CommitPhase) → Lasts old new → new.seen ≡ old.seen
+    → IsReadyIn old held tries phase → IsReadyIn new held tries phase
+in_phase_ready old new held tries (fresh entry) lasts same may = look_later old new held tries entry lasts may
+in_phase_ready old new held tries (ready entry next) lasts same may = offer_later old new held tries entry next lasts same may
+in_phase_ready old new held tries over lasts same may = absurd may
+
+pub looks_later : (old new : Told) (commit : PlainCommit) → Lasts old new → looked_at commit ≡ None → IsReadyFor old commit → IsReadyFor new commit
+looks_later old new commit lasts none may = in_phase_looks old new commit.held commit.tries commit.phase lasts none may
+
+pub ready_later : (old new : Told) (commit : PlainCommit) → Lasts old new → new.seen ≡ old.seen → IsReadyFor old commit → IsReadyFor new commit
+ready_later old new commit lasts same may = in_phase_ready old new commit.held commit.tries commit.phase lasts same may
+
+pub clear_look : (old new : Told) (before after : PlainCommit) (entry : PlainRecord) (op : Op) (front held next : KeptRevision) (tries number : ℕ)
+    → MayLook old before.held before.tries entry → Lasts old new → IsLook old new front
+    → held ≡ before.held → plain_op op ≡ entry.op
     → ((first : Size) (entries : List PlainRecord) (more : PlainRecord) → StandsFor first front entries → more.held ≤ length entries
-    → StandsFor first committer.held (take more.held entries) → more.op ≡ plain_op op → StandsFor first next (entries ++ more ∷ []))
-    → now ≡ next → tries ≡ raised committer.tries 1 → number ≡ front.newest.number
-    → IsClearLook old new (committer_in (Fresh entry) committer) (record { phase = Ready entry next now; held = committer.held; tries = tries }) number
-clear_look old new committer entry op front next now tries number may lasts look same_op prepared shared count at =
-    let later : MayBeTried old.first new.seen committer.held (plain_record entry) =
-    tried_later old.first new.seen old.seen committer.held (plain_record entry) lasts.seen may in
-    let stands : StandsFor old.first next (new.seen ++ plain_record entry ∷ []) =
-    prepared old.first new.seen (plain_record entry) look.stands later.within later.stands (ap plain_op (sym same_op)) in
+    → StandsFor first held (take more.held entries) → more.op ≡ plain_op op → StandsFor first next (entries ++ more ∷ []))
+    → tries ≡ before.tries + 1 → number ≡ front.newest.number
+    → after ≡ record { phase = ready entry next; held = held; tries = tries }
+    → IsClearLook old new (commit_in (fresh entry) before) after number
+clear_look old new before after entry op front held next tries number may lasts look same_held same_op prepared count at same =
+    let later : MayBeTried old.first new.seen before.held entry = tried_later old.first new.seen old.seen before.held entry lasts.seen may.may in
+    let stands : StandsFor old.first next (new.seen ++ entry ∷ []) =
+    prepared old.first new.seen entry look.stands later.within (rw same_held later.stands) (sym same_op) in
     let reached : number ≡ length new.seen = at ∙ look.stands.newest.number in
-    let next_number : next.newest.number - 1 ≡ number = omega (arith, reached, stands.newest.number, length-append new.seen (plain_record entry ∷ [])) in
-    record {
+    let next_number : next.newest.number - 1 ≡ number = omega (arith, reached, stands.newest.number, length-append new.seen (entry ∷ [])) in
+    subst (λ commit. IsClearLook old new (commit_in (fresh entry) before) commit number) (sym same) (record {
       looked = refl;
       look = record { front = front; answered = look };
       at = reached;
-      clear = (last_follows old.first [] new.seen (plain_record entry) stands.lawful).admitted;
+      clear = (last_follows old.first [] new.seen entry stands.lawful).admitted;
       keeps = record {
         entry = refl;
-        held = refl;
+        held = same_held;
         tries = count;
         looked = ap Some next_number;
       };
-      ready = rw lasts.first (later, stands, rw shared stands);
-    }
+      ready = record {
+        may = rw (lasts.first, same_held) later;
+        stands = rw lasts.first stands;
+        looks = omega (arith, count, may.looks, look.fresh, at, reached);
+      };
+    })
 
-pub cancelled_look : (old new : Told) (before after : Committer) (entry : Record) (op : Op) (front : KeptRevision) (tries number : ℕ) (cause : Cancel)
-    → MayBeTried old.first old.seen before.held (plain_record entry) → Lasts old new → IsLook old new front
-    → op ≡ entry.op.value
-    → ((first : Size) (entries : List PlainRecord) (held : ℕ) → StandsFor first front entries → StandsFor first before.held (take held entries)
-    → cancel_of first (plain_op op) entries held ≡ Some cause)
-    → after.phase ≡ Ended → tries ≡ raised before.tries 1 → number ≡ front.newest.number
-    → IsCancelledLook old new (committer_in (Fresh entry) before) after number tries cause
-cancelled_look old new before after entry op front tries number cause may lasts look same_op cancelled ended count at =
-    let later : MayBeTried old.first new.seen before.held (plain_record entry) =
-    tried_later old.first new.seen old.seen before.held (plain_record entry) lasts.seen may in
+pub cancelled_look : (old new : Told) (before after : PlainCommit) (entry : PlainRecord) (op : Op) (front held : KeptRevision)
+    (tries number : ℕ) (cause : Cancel)
+    → MayLook old before.held before.tries entry → Lasts old new → IsLook old new front
+    → held ≡ before.held → plain_op op ≡ entry.op
+    → ((first : Size) (entries : List PlainRecord) (at : ℕ) → StandsFor first front entries → StandsFor first held (take at entries)
+    → cancel_of first (plain_op op) entries at ≡ Some cause)
+    → after.phase ≡ over → tries ≡ before.tries + 1 → number ≡ front.newest.number
+    → IsCancelledLook old new (commit_in (fresh entry) before) after number tries cause
+cancelled_look old new before after entry op front held tries number cause may lasts look same_held same_op cancelled ended count at =
+    let later : MayBeTried old.first new.seen before.held entry = tried_later old.first new.seen old.seen before.held entry lasts.seen may.may in
     record {
       looked = refl;
       look = record { front = front; answered = look };
       at = at ∙ look.stands.newest.number;
-      cause = subst (λ o. cancel_of old.first (plain_op o) new.seen entry.held ≡ Some cause) same_op (cancelled old.first new.seen entry.held look.stands later.stands);
+      cause = subst (λ o. cancel_of old.first o new.seen entry.held ≡ Some cause) same_op
+          (cancelled old.first new.seen entry.held look.stands (rw same_held later.stands));
       tries = count;
-      ended = rw ended refl;
+      ended = ended;
     }
 
-pub look_in_vain : (old new : Told) (committer : Committer) (entry : Record) (front : KeptRevision)
-    → MayBeTried old.first old.seen committer.held (plain_record entry) → Lasts old new → IsLook old new front
-    → IsLookInVain old new (committer_in (Fresh entry) committer) (committer_in (Fresh entry) committer)
-look_in_vain old new committer entry front may lasts look = record {
-  as_before = record { same = refl; ready = rw lasts.first (tried_later old.first new.seen old.seen committer.held (plain_record entry) lasts.seen may) };
+pub look_in_vain : (old new : Told) (before after : PlainCommit) (entry : PlainRecord) (front : KeptRevision)
+    → MayLook old before.held before.tries entry → Lasts old new → IsLook old new front
+    → after ≡ commit_in (fresh entry) before
+    → IsLookInVain old new (commit_in (fresh entry) before) after
+look_in_vain old new before after entry front may lasts look same = record {
+  as_before = record { same = same; ready = subst (IsReadyFor new) (sym same) (look_later old new before.held before.tries entry lasts may) };
   looked = refl;
   look = inr (record { front = front; answered = look });
 }
 
-pub admitted_offer : (old new : Told) (before after : Committer) (entry : Record) (next now : KeptRevision) (number tries : ℕ)
-    → IsReadyFor old.first old.seen (committer_in (Ready entry next now) before) → Lasts old new → IsOffer old new (plain_record entry) number
-    → after.phase ≡ Ended → tries ≡ before.tries
-    → IsAdmittedOffer old new (committer_in (Ready entry next now) before) after number tries (Some now)
-admitted_offer old new before after entry next now number tries ready lasts offer ended count =
-    let next_number : next.newest.number - 1 ≡ length old.seen =
-    omega (arith, ready.1.newest.number, length-append old.seen (plain_record entry ∷ [])) in
+pub admitted_offer : (old new : Told) (before after : PlainCommit) (entry : PlainRecord) (next now : KeptRevision) (number tries : ℕ)
+    → MayOffer old before.held before.tries entry next → Lasts old new → IsOffer old new entry number
+    → now ≡ next → after.phase ≡ over → tries ≡ before.tries
+    → IsAdmittedOffer old new (commit_in (ready entry next) before) after number tries (Some now)
+admitted_offer old new before after entry next now number tries may lasts offer shares ended count =
+    let next_number : next.newest.number - 1 ≡ length old.seen = omega (arith, may.stands.newest.number, length-append old.seen (entry ∷ [])) in
     record {
       looked = ap Some next_number;
-      entry = plain_record entry;
+      entry = entry;
       is_entry = refl;
       offer = offer;
       tries = count;
-      ended = rw ended refl;
-      revision = now;
-      now = refl;
-      stands = rw (lasts.first, offer.seen) ready.2;
+      ended = ended;
+      revision = next;
+      now = ap Some shares;
+      stands = rw (lasts.first, offer.seen) may.stands;
     }
 
--- the event of a commit is that of its phase
-pub event_in : (old new : Told) (before after : Committer) (phase : Phase) (progress : Progress) → phase ≡ before.phase
-    → IsEvent old new (committer_in phase before) after progress → IsEvent old new before after progress
-event_in old new before after phase progress same event = subst (λ p. IsEvent old new (committer_in p before) after progress) same event
+-- the late offer of an event
+pub found_behind : (old new : Told) (before after : PlainCommit) (progress : Progress) (found : ℕ) → progress ≡ Again found
+    → IsEvent old new before after progress → IsFoundBehind old new found
+found_behind old new before after progress found same event =
+    let late : IsLateOffer old new before after found = subst (λ p. IsEvent old new before after p) same event in late.behind
+
+-- a commit that may be offered was offered too late: it is to look again
+pub late_offer : (old new : Told) (before after : PlainCommit) (entry : PlainRecord) (next : KeptRevision) (found : ℕ)
+    → MayOffer old before.held before.tries entry next → Lasts old new → Stays old new
+    → length old.seen < found → found ≤ new.floor → ((entries : List PlainRecord) → old.whole ≡ Some entries → old.seen ≢ entries)
+    → after ≡ commit_in (fresh entry) before
+    → IsLateOffer old new (commit_in (ready entry next) before) after found
+late_offer old new before after entry next found may lasts stays above reached whole same =
+    let next_number : next.newest.number - 1 ≡ length old.seen = omega (arith, may.stands.newest.number, length-append old.seen (entry ∷ [])) in
+    subst (λ commit. IsLateOffer old new (commit_in (ready entry next) before) commit found) (sym same) (record {
+      looked = ap Some next_number;
+      stays = stays;
+      behind = record { above = above; reached = reached; seen = stays.seen };
+      whole = whole;
+      keeps = record { entry = refl; held = refl; tries = refl; looked = refl };
+      ready = record {
+        may = rw lasts.first (tried_later old.first new.seen old.seen before.held entry lasts.seen may.may);
+        looks = omega (arith, may.looks, above, reached);
+      };
+    })
+
+-- the parts of two commits that are the same
+pub same_held : {one other : PlainCommit} → one ≡ other → one.held ≡ other.held
+same_held same = ap (λ (commit : PlainCommit). commit.held) same
+
+pub same_tries : {one other : PlainCommit} → one ≡ other → one.tries ≡ other.tries
+same_tries same = ap (λ (commit : PlainCommit). commit.tries) same

@@ -10,15 +10,13 @@ use Rattle.tree_revision.specs.Cancels.{cancel_of}
 use Rattle.tree_revision.specs.Ports.{Told, BeginsWith, Lasts, HasLooked}
 use Rattle.tree_revision.specs.declared.record.Cancel.{Cancel}
 use Rattle.tree_revision.specs.Settled.{KeptRevision}
-use Rattle.commit_core.specs.declared.committer.Phase.{Phase}
-use Rattle.commit_core.specs.declared.committer.Phase.TheVariants.{Fresh, Ready, Ended}
-use Rattle.commit_core.specs.declared.committer.Committer.{Committer}
 use Rattle.tree_revision.specs.declared.record.Answer.{Answer}
 use Rattle.tree_revision.specs.declared.record.Answer.TheVariants.{Held, Admitted, Cancelled, Mounted, Empty}
 use Rattle.commit_core.specs.declared.committer.Progress.{Progress}
 use Rattle.commit_core.specs.declared.committer.Progress.TheVariants.{Looked, Again, Busy, Done, Memory}
-use Rattle.commit_core.specs.Events.{entry_under_way, looked_at, IsClearLook, IsCancelledLook, IsAdmittedOffer, IsLateOffer, IsEnd, IsEvent}
-use Rattle.commit_core.specs.Tries.{clear_numbers, looked_below, TriesHaveRoom}
+use Rattle.commit_core.specs.Events.{IsClearLook, IsCancelledLook, IsAdmittedOffer, IsLateOffer, IsEnd, IsEvent}
+use Rattle.commit_core.specs.Commit.{CommitPhase, fresh, ready, over, PlainCommit, entry_in, entry_under_way, look_in, looked_at}
+use Rattle.commit_core.specs.Tries.{clear_numbers, looked_below, TriesHaveClearNumbers}
 use Rattle.commit_core.proofs.Steps.{take_begins}
 
 -- the count of a list by its first number
@@ -92,44 +90,44 @@ IsFound None = ⊥
 some_none : {A X : Type 0} {x : A} → Some x ≡ None → X
 some_none e = absurd (subst IsFound e tt)
 
-below_floor : (phase : Phase) (told : Told) → looked_at phase ≡ None → looked_below phase told ≤ told.floor
-below_floor (Fresh entry) told none = omega arith
-below_floor (Ready entry next now) told none = some_none none
-below_floor Ended told none = omega arith
+below_floor : (phase : CommitPhase) (told : Told) → look_in phase ≡ None → looked_below phase told ≤ told.floor
+below_floor (fresh entry) told none = omega arith
+below_floor (ready entry next) told none = some_none none
+below_floor over told none = omega arith
 
-below_seen : (phase : Phase) (told : Told) → looked_below phase told ≤ length told.seen + 1
-below_seen (Fresh entry) told = omega arith
-below_seen (Ready entry next now) told = omega arith
-below_seen Ended told = omega arith
+below_seen : (phase : CommitPhase) (told : Told) → looked_below phase told ≤ length told.seen + 1
+below_seen (fresh entry) told = omega arith
+below_seen (ready entry next) told = omega arith
+below_seen over told = omega arith
 
-below_ready : (phase : Phase) (told : Told) (number : ℕ) → looked_at phase ≡ Some number → looked_below phase told ≡ length told.seen + 1
-below_ready (Fresh entry) told number some = some_none (sym some)
-below_ready (Ready entry next now) told number some = refl
-below_ready Ended told number some = some_none (sym some)
+below_ready : (phase : CommitPhase) (told : Told) (number : ℕ) → look_in phase ≡ Some number → looked_below phase told ≡ length told.seen + 1
+below_ready (fresh entry) told number some = some_none (sym some)
+below_ready (ready entry next) told number some = refl
+below_ready over told number some = some_none (sym some)
 
-below_again : (phase : Phase) (told : Told) (entry : PlainRecord) → looked_at phase ≡ None → entry_under_way phase ≡ Some entry
+below_again : (phase : CommitPhase) (told : Told) (entry : PlainRecord) → look_in phase ≡ None → entry_in phase ≡ Some entry
     → looked_below phase told ≡ min told.floor (length told.seen + 1)
-below_again (Fresh e) told entry none some = refl
-below_again (Ready e next now) told entry none some = some_none none
-below_again Ended told entry none some = some_none (sym some)
+below_again (fresh e) told entry none some = refl
+below_again (ready e next) told entry none some = some_none none
+below_again over told entry none some = some_none (sym some)
 
 -- the tries before a look have room below the number looked at
-look_room : (old new : Told) (before : Committer) (entry : PlainRecord) (from : ℕ) → Lasts old new → looked_at before.phase ≡ None
-    → HasLooked old new → entry_under_way before.phase ≡ Some entry → TriesHaveRoom from old before
+look_room : (old new : Told) (before : PlainCommit) (entry : PlainRecord) (from : ℕ) → Lasts old new → looked_at before ≡ None
+    → HasLooked old new → entry_under_way before ≡ Some entry → TriesHaveClearNumbers from old before
     → before.tries ≤ clear_numbers old.first new.seen entry from (length new.seen)
 look_room old new before entry from lasts none look is_entry room =
     omega (
       arith,
-      room.room entry is_entry,
+      room.enough entry is_entry,
       clear_more old.first new.seen old.seen entry from (looked_below before.phase old) (length new.seen) lasts.seen (below_seen before.phase old)
           (omega (arith, below_floor before.phase old none, look.answered.fresh, look.answered.stands.newest.number)),
     )
 
-pub room_after_clear : (old new : Told) (before after : Committer) (number from : ℕ) → from ≤ length old.seen → Lasts old new
-    → IsClearLook old new before after number → TriesHaveRoom from old before → TriesHaveRoom from new after
+pub room_after_clear : (old new : Told) (before after : PlainCommit) (number from : ℕ) → from ≤ length old.seen → Lasts old new
+    → IsClearLook old new before after number → TriesHaveClearNumbers from old before → TriesHaveClearNumbers from new after
 room_after_clear old new before after number from low lasts event room = record {
-  room = λ entry is_entry.
-      let was : entry_under_way before.phase ≡ Some entry = sym event.keeps.entry ∙ is_entry in
+  enough = λ entry is_entry.
+      let was : entry_under_way before ≡ Some entry = sym event.keeps.entry ∙ is_entry in
       let tried : before.tries ≤ clear_numbers old.first new.seen entry from (length new.seen) =
       look_room old new before entry from lasts event.looked event.look was room in
       let clear : cancel_of old.first entry.op new.seen entry.held ≡ None = rw was at event.clear in
@@ -145,33 +143,33 @@ room_after_clear old new before after number from low lasts event room = record 
   once = λ _ _. omega (arith, event.keeps.tries);
 }
 
-pub room_after_late : (old new : Told) (before after : Committer) (found from : ℕ) → Lasts old new
-    → IsLateOffer old new before after found → TriesHaveRoom from old before → TriesHaveRoom from new after
+pub room_after_late : (old new : Told) (before after : PlainCommit) (found from : ℕ) → Lasts old new
+    → IsLateOffer old new before after found → TriesHaveClearNumbers from old before → TriesHaveClearNumbers from new after
 room_after_late old new before after found from lasts event room = record {
-  room = λ entry is_entry.
-      let was : entry_under_way before.phase ≡ Some entry = sym event.keeps.entry ∙ is_entry in
+  enough = λ entry is_entry.
+      let was : entry_under_way before ≡ Some entry = sym event.keeps.entry ∙ is_entry in
       let below : looked_below after.phase new ≡ looked_below before.phase old =
       omega (
         arith,
         below_again after.phase new entry event.keeps.looked is_entry,
         below_ready before.phase old (length old.seen) event.looked,
-        event.behind,
-        event.reached,
+        event.behind.above,
+        event.behind.reached,
         ap length event.stays.seen,
       ) in
-      omega (arith, same_room entry from 0 after.tries lasts.first event.stays.seen below (omega (arith, room.room entry was, event.keeps.tries)));
+      omega (arith, same_room entry from 0 after.tries lasts.first event.stays.seen below (omega (arith, room.enough entry was, event.keeps.tries)));
   once = λ _ some. some_none (sym some ∙ event.keeps.looked);
 }
 
 -- a committer that is as before has the room that it had
-pub room_stays : (old new : Told) (committer : Committer) (from : ℕ) → Lasts old new → looked_below committer.phase old ≤ looked_below committer.phase new
-    → TriesHaveRoom from old committer → TriesHaveRoom from new committer
+pub room_stays : (old new : Told) (committer : PlainCommit) (from : ℕ) → Lasts old new → looked_below committer.phase old ≤ looked_below committer.phase new
+    → TriesHaveClearNumbers from old committer → TriesHaveClearNumbers from new committer
 room_stays old new committer from lasts rises room = record {
-  room = λ entry is_entry.
+  enough = λ entry is_entry.
       let tries : committer.tries ≤ clear_numbers old.first new.seen entry from (looked_below committer.phase new) + 0 =
       omega (
         arith,
-        room.room entry is_entry,
+        room.enough entry is_entry,
         clear_more old.first new.seen old.seen entry from (looked_below committer.phase old) (looked_below committer.phase new) lasts.seen
             (below_seen committer.phase old) rises,
       ) in
@@ -180,51 +178,46 @@ room_stays old new committer from lasts rises room = record {
 }
 
 -- what a commit has looked below never falls
-pub below_rises : (phase : Phase) (old new : Told) → Lasts old new → looked_below phase old ≤ looked_below phase new
-below_rises (Fresh entry) old new lasts = omega (arith, lasts.floor, lasts.seen.within)
-below_rises (Ready entry next now) old new lasts = omega (arith, lasts.seen.within)
-below_rises Ended old new lasts = omega arith
+pub below_rises : (phase : CommitPhase) (old new : Told) → Lasts old new → looked_below phase old ≤ looked_below phase new
+below_rises (fresh entry) old new lasts = omega (arith, lasts.floor, lasts.seen.within)
+below_rises (ready entry next) old new lasts = omega (arith, lasts.seen.within)
+below_rises over old new lasts = omega arith
 
 -- a commit that has ended tries no more
-room_ended : (from : ℕ) (told : Told) (committer : Committer) → entry_under_way committer.phase ≡ None → looked_at committer.phase ≡ None → TriesHaveRoom from told committer
+room_ended : (from : ℕ) (told : Told) (committer : PlainCommit) → entry_under_way committer ≡ None → looked_at committer ≡ None → TriesHaveClearNumbers from told committer
 room_ended from told committer ended none = record {
-  room = λ entry some. some_none (sym some ∙ ended);
+  enough = λ entry some. some_none (sym some ∙ ended);
   once = λ number some. some_none (sym some ∙ none);
 }
 
-no_look : (phase : Phase) → entry_under_way phase ≡ None → looked_at phase ≡ None
-no_look (Fresh entry) ended = refl
-no_look (Ready entry next now) ended = some_none ended
-no_look Ended ended = refl
-
-room_at_end : (old new : Told) (before after : Committer) (answer : Answer) (now : Option KeptRevision) (from : ℕ)
-    → IsEnd old new before after answer now → TriesHaveRoom from new after
+room_at_end : (old new : Told) (before after : PlainCommit) (answer : Answer) (now : Option KeptRevision) (from : ℕ)
+    → IsEnd old new before after answer now → TriesHaveClearNumbers from new after
 room_at_end old new before after (Held at) now from event = absurd event
-room_at_end old new before after (Admitted number tries) now from event = room_ended from new after event.ended (no_look after.phase event.ended)
-room_at_end old new before after (Cancelled at tries cause) now from event = room_ended from new after event.0.ended (no_look after.phase event.0.ended)
+room_at_end old new before after (Admitted number tries) now from event = room_ended from new after (ap entry_in event.ended) (ap look_in event.ended)
+room_at_end old new before after (Cancelled at tries cause) now from event = room_ended from new after (ap entry_in event.0.ended) (ap look_in event.0.ended)
 room_at_end old new before after (Mounted base to) now from event = absurd event
 room_at_end old new before after (Empty at) now from event = absurd event
 
-pub room_goes_on : (old new : Told) (before after : Committer) (progress : Progress) (from : ℕ) → from ≤ length old.seen → Lasts old new
-    → IsEvent old new before after progress → TriesHaveRoom from old before → TriesHaveRoom from new after
+pub room_goes_on : (old new : Told) (before after : PlainCommit) (progress : Progress) (from : ℕ) → from ≤ length old.seen → Lasts old new
+    → IsEvent old new before after progress → TriesHaveClearNumbers from old before → TriesHaveClearNumbers from new after
 room_goes_on old new before after (Looked at) from low lasts event room = room_after_clear old new before after at from low lasts event room
 room_goes_on old new before after (Again found) from low lasts event room = room_after_late old new before after found from lasts event room
 room_goes_on old new before after Busy from low lasts event room =
-    subst (TriesHaveRoom from new) (sym event.as_before.same) (room_stays old new before from lasts (below_rises before.phase old new lasts) room)
+    subst (TriesHaveClearNumbers from new) (sym event.as_before.same) (room_stays old new before from lasts (below_rises before.phase old new lasts) room)
 room_goes_on old new before after (Done answer now) from low lasts event room = room_at_end old new before after answer now from event
 room_goes_on old new before after Memory from low lasts event room =
-    subst (TriesHaveRoom from new) (sym event.as_before.same) (room_stays old new before from lasts (below_rises before.phase old new lasts) room)
+    subst (TriesHaveClearNumbers from new) (sym event.as_before.same) (room_stays old new before from lasts (below_rises before.phase old new lasts) room)
 
-pub room_at_cancel : (old new : Told) (before after : Committer) (number count from : ℕ) (found : Cancel) (entry : PlainRecord) → Lasts old new
-    → IsCancelledLook old new before after number count found → TriesHaveRoom from old before → entry_under_way before.phase ≡ Some entry
+pub room_at_cancel : (old new : Told) (before after : PlainCommit) (number count from : ℕ) (found : Cancel) (entry : PlainRecord) → Lasts old new
+    → IsCancelledLook old new before after number count found → TriesHaveClearNumbers from old before → entry_under_way before ≡ Some entry
     → (1 ≤ count) × (count ≤ clear_numbers old.first new.seen entry from number + 1)
 room_at_cancel old new before after number count from found entry lasts event room is_entry = (
   omega (arith, event.tries),
   same_room entry from 1 count refl refl event.at (omega (arith, event.tries, look_room old new before entry from lasts event.looked event.look is_entry room)),
 )
 
-pub room_at_admission : (old new : Told) (before after : Committer) (number count from : ℕ) (share : Option KeptRevision) → from ≤ length old.seen → Lasts old new
-    → (event : IsAdmittedOffer old new before after number count share) → TriesHaveRoom from old before
+pub room_at_admission : (old new : Told) (before after : PlainCommit) (number count from : ℕ) (share : Option KeptRevision) → from ≤ length old.seen → Lasts old new
+    → (event : IsAdmittedOffer old new before after number count share) → TriesHaveClearNumbers from old before
     → (1 ≤ count) × (count ≤ clear_numbers old.first new.seen event.entry from (number - 1) + 1)
 room_at_admission old new before after number count from share low lasts event room =
     let seen : number - 1 ≡ length old.seen = omega (arith, event.offer.number, ap length event.offer.seen, length-append old.seen (event.entry ∷ [])) in
@@ -234,7 +227,7 @@ room_at_admission old new before after number count from share low lasts event r
     ≤ clear_numbers old.first old.seen event.entry from (length old.seen) + 1) further (count_top _ from (length old.seen - from)) in
     let tried : before.tries ≤ clear_numbers old.first old.seen event.entry from (length old.seen + 1) =
     subst (λ below. before.tries ≤ clear_numbers old.first old.seen event.entry from below) (below_ready before.phase old (length old.seen) event.looked)
-    (room.room event.entry event.is_entry) in (
+    (room.enough event.entry event.is_entry) in (
       omega (arith, room.once (length old.seen) event.looked, event.tries),
       same_room event.entry from 1 count refl refl seen
           (omega (

@@ -1,38 +1,42 @@
 //! A commit, one event at a time.
 
-ghost use Rattle.std.specs.Prelude.{◌≡◌, ℕ, ◌-◌, ◌≤◌, ◌<◌, ◌^◌, List, [], ◌∷◌, ◌++◌, length, take, Some, None, is_none, IfOk, IfErr};
+ghost use Rattle.std.specs.Prelude.{◌≡◌, ℕ, ◌+◌, ◌-◌, ◌≤◌, ◌<◌, ◌^◌, List, [], ◌∷◌, ◌++◌, length, take, Some, is_none, IfOk, IfErr};
 ghost use Rattle.shadow_frame.specs.declared.Size.{Size};
 ghost use Rattle.tree_revision.specs.Records.{PlainRecord, plain_op, plain_record};
 ghost use Rattle.tree_revision.specs.InRange.{IsOpInRange};
 ghost use Rattle.tree_revision.specs.Cancels.{cancel_of};
 ghost use Rattle.tree_revision.specs.Stands.{StandsFor};
-ghost use Rattle.tree_revision.specs.Ports.{Lasts};
+ghost use Rattle.tree_revision.specs.Ports.{Told, Lasts};
 ghost use Rattle.tree_revision.specs.declared.record.Cancel.{Cancel as CancelValue};
 ghost use Rattle.tree_revision.specs.declared.next.PrepareRefusal.TheVariants.{Cancel as CancelRefusal};
-ghost use Rattle.commit_core.specs.declared.committer.Phase.TheVariants.{Fresh, Ready, Ended};
-ghost use Rattle.commit_core.specs.Events.{entry_under_way, looked_at, MayBeTried, IsReadyFor, IsEvent, committer_in};
+ghost use Rattle.commit_core.specs.declared.committer.Progress.TheVariants.{Again};
+ghost use Rattle.commit_core.specs.Commit.{fresh, ready, over, begun_commit, commit_in, entry_under_way};
+ghost use Rattle.commit_core.specs.Events.{MayLook, MayOffer, IsReadyFor, IsFoundBehind, IsEvent};
 
 use shadow_node::Made;
 use std::alloc::Global;
+use std::marker::Model;
 use std::mem;
 use tree_revision::{
     Answer, LookRefusal, OfferRefusal, Op, Port, PrepareRefusal, Record, Revision, prepare,
 };
 
+/// A commit that has looked: its record, and the revision after the change, in two shares. The
+/// second one is for the answer.
+#[derive(Drop)]
+pub(crate) struct ReadyCommit {
+    pub(crate) entry: Record,
+    pub(crate) next: Revision,
+    pub(crate) now: Revision,
+}
+
 /// Where a commit stands.
 #[derive(Drop)]
 pub(crate) enum Phase {
     /// It is to look.
-    Fresh {
-        entry: Record,
-    },
-    /// It has looked, and is to be offered with the revision after it. The second share of that
-    /// revision is for the answer.
-    Ready {
-        entry: Record,
-        next: Revision,
-        now: Revision,
-    },
+    Fresh(Record),
+    /// It is to be offered.
+    Ready(ReadyCommit),
     /// It was admitted or cancelled.
     Ended,
 }
@@ -62,10 +66,23 @@ pub enum Progress {
 /// A commit on its way: the record that is to be added, and the revision that its caller holds.
 #[derive(Drop)]
 pub struct Committer {
-    pub(crate) phase: Phase,
-    pub(crate) held: Revision,
+    phase: Phase,
+    held: Revision,
     /// The number of looks, but for those that ended in `Busy` or `Memory`.
-    pub(crate) tries: u64,
+    tries: u64,
+}
+
+impl Model for Committer {
+    ghost use Rattle.commit_core.specs.Commit.{PlainCommit, coded_commit};
+    ghost use Rattle.commit_core.specs.Phases.{plain_phase, HasTwoShares};
+
+    ghost Value = { PlainCommit };
+
+    ghost coded = { coded_commit };
+
+    ghost view = { λ c. record { phase = plain_phase c.phase; held = c.held; tries = c.tries } };
+
+    ghost invariant = { λ c. HasTwoShares c.phase };
 }
 
 impl Committer {
@@ -73,14 +90,11 @@ impl Committer {
     pub fn start(entry: Record, held: Revision) -> Committer
         requires held { entry.held ≡ held.newest.number }
         requires op { IsOpInRange (plain_op entry.op.value) }
-        ensures entry { entry_under_way result.phase ≡ Some (plain_record entry) }
-        ensures held { result.held ≡ held }
-        ensures tries { result.tries ≡ 0 }
-        ensures looked { looked_at result.phase ≡ None }
-        ensures ready { (first : Size) (seen : List PlainRecord) → entry.held ≤ length seen → StandsFor first held (take entry.held seen) → IsReadyFor first seen result }
+        ensures begun { result ≡ begun_commit (plain_record entry) held }
+        ensures ready { (told : Told) → entry.held ≤ length told.seen → StandsFor told.first held (take entry.held told.seen) → IsReadyFor told result }
     {
         Committer {
-            phase: Phase::Fresh { entry },
+            phase: Phase::Fresh(entry),
             held,
             tries: 0,
         }
@@ -88,7 +102,7 @@ impl Committer {
 
     /// Whether it has ended.
     pub fn is_done(&self) -> bool
-        ensures { result ≡ is_none (entry_under_way self.now.phase) }
+        ensures { result ≡ is_none (entry_under_way self.now) }
     {
         matches!(self.phase, Phase::Ended)
     }
@@ -98,19 +112,20 @@ impl Committer {
     ///
     /// After `Busy` and `Memory` it is as before. An offer never answers `Memory`.
     pub fn turn<P: Port>(&mut self, alloc: Global, made: &mut Made, port: &mut P) -> Progress
-        requires ready { IsReadyFor (P.told port.old).first (P.told port.old).seen self.old }
+        requires ready { IsReadyFor (P.told port.old) self.old }
         requires permit { 1 ≤ (P.told port.old).permits }
         ensures lasts { Lasts (P.told port.old) (P.told port.new) }
+        ensures late { (found : ℕ) → result ≡ Again found → IsFoundBehind (P.told port.old) (P.told port.new) found }
         ensures event { IsEvent (P.told port.old) (P.told port.new) self.old self.new result }
     {
         match mem::replace(&mut self.phase, Phase::Ended) {
-            Phase::Fresh { entry } => self.look(alloc, made, port, entry),
-            Phase::Ready { entry, next, now } => self.offer(port, entry, next, now),
+            Phase::Fresh(entry) => self.look(alloc, made, port, entry),
+            Phase::Ready(commit) => self.offer(port, commit),
             Phase::Ended => unreachable!(),
         }
     }
 
-    /// A look, and the revision after the change, in two shares.
+    /// A look, and the revision after the change.
     fn look<P: Port>(
         &mut self,
         alloc: Global,
@@ -118,16 +133,16 @@ impl Committer {
         port: &mut P,
         entry: Record,
     ) -> Progress
-        requires ended { self.old.phase ≡ Ended }
-        requires ready { MayBeTried (P.told port.old).first (P.told port.old).seen self.old.held (plain_record entry) }
+        requires ended { self.old.phase ≡ over }
+        requires ready { MayLook (P.told port.old) self.old.held self.old.tries (plain_record entry) }
         requires permit { 1 ≤ (P.told port.old).permits }
         ensures lasts { Lasts (P.told port.old) (P.told port.new) }
-        ensures event { IsEvent (P.told port.old) (P.told port.new) (committer_in (Fresh entry) self.old) self.new result }
+        ensures event { IsEvent (P.told port.old) (P.told port.new) (commit_in (fresh (plain_record entry)) self.old) self.new result }
     {
         let front = match port.try_look() {
             Ok(front) => front,
             Err(refusal) => {
-                self.phase = Phase::Fresh { entry };
+                self.phase = Phase::Fresh(entry);
                 return match refusal {
                     LookRefusal::Busy => Progress::Busy,
                     LookRefusal::Memory => Progress::Memory,
@@ -135,10 +150,10 @@ impl Committer {
             }
         };
         let at = front.number();
-        let tries = self.tries.saturating_add(1);
+        let tries = self.tries + 1;
         match prepare_shared(alloc, made, &entry.op, &front, &self.held) {
             Ok((next, now)) => {
-                self.phase = Phase::Ready { entry, next, now };
+                self.phase = Phase::Ready(ReadyCommit { entry, next, now });
                 self.tries = tries;
                 Progress::Looked { at }
             }
@@ -147,26 +162,22 @@ impl Committer {
                 now: None,
             },
             Err(PrepareRefusal::Memory) => {
-                self.phase = Phase::Fresh { entry };
+                self.phase = Phase::Fresh(entry);
                 Progress::Memory
             }
         }
     }
 
     /// An offer of the revision after the change.
-    fn offer<P: Port>(
-        &mut self,
-        port: &mut P,
-        entry: Record,
-        next: Revision,
-        now: Revision,
-    ) -> Progress
-        requires ended { self.old.phase ≡ Ended }
-        requires ready { IsReadyFor (P.told port.old).first (P.told port.old).seen (committer_in (Ready entry next now) self.old) }
+    fn offer<P: Port>(&mut self, port: &mut P, commit: ReadyCommit) -> Progress
+        requires ended { self.old.phase ≡ over }
+        requires shares { commit.now ≡ commit.next }
+        requires ready { MayOffer (P.told port.old) self.old.held self.old.tries (plain_record commit.entry) commit.next }
         requires permit { 1 ≤ (P.told port.old).permits }
         ensures lasts { Lasts (P.told port.old) (P.told port.new) }
-        ensures event { IsEvent (P.told port.old) (P.told port.new) (committer_in (Ready entry next now) self.old) self.new result }
+        ensures event { IsEvent (P.told port.old) (P.told port.new) (commit_in (ready (plain_record commit.entry) commit.next) self.old) self.new result }
     {
+        let ReadyCommit { entry, next, now } = commit;
         match port.try_offer(entry, next) {
             Ok(number) => Progress::Done {
                 answer: Answer::Admitted {
@@ -176,17 +187,11 @@ impl Committer {
                 now: Some(now),
             },
             Err(OfferRefusal::Busy { entry, next }) => {
-                self.phase = Phase::Ready { entry, next, now };
+                self.phase = Phase::Ready(ReadyCommit { entry, next, now });
                 Progress::Busy
             }
-            Err(
-                OfferRefusal::Behind {
-                    found,
-                    entry,
-                    next: _,
-                },
-            ) => {
-                self.phase = Phase::Fresh { entry };
+            Err(OfferRefusal::Behind { found, entry, .. }) => {
+                self.phase = Phase::Fresh(entry);
                 Progress::Again { found }
             }
         }

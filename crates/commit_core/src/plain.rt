@@ -7,7 +7,9 @@ ghost use Rattle.commit_core.specs.Plain.{plain_records};
 ghost use Rattle.commit_core.specs.PlainPorts.{records_of, told_of, IsToldOf};
 
 use crate::plain_parts::{PlainPass, PlainPort, PlainSpine};
+use sqlite_items::Items;
 use std::alloc::{AllocError, Global};
+use std::mem;
 use tree_revision::{LookRefusal, OfferRefusal, Port, Record, Revision};
 
 /// No memory holds as many records as this.
@@ -76,6 +78,14 @@ impl PlainSpine {
         &self.front
     }
 
+    /// The records, in order, and the revision that stands for them all. Nothing is copied.
+    pub fn into_parts(self) -> (Items<Record>, Revision)
+        ensures records { plain_records result.0 ≡ records_of self }
+        ensures front { StandsFor self.first result.1 (records_of self) }
+    {
+        (Items::from_vec(self.records), self.front)
+    }
+
     /// Adds a record, for which there is room, and the revision after it.
     fn add(&mut self, entry: Record, next: Revision)
         requires room { length (records_of self.old) < self.old.room }
@@ -99,6 +109,18 @@ impl PlainPort {
         ensures within { length (records_of result.0) ≤ result.0.room }
     {
         (self.spine, self.pass)
+    }
+
+    /// Exchanges the port's pass for that one. No record is moved, and the spine is as before.
+    pub fn exchange(&mut self, pass: &mut PlainPass)
+        requires reached { pass.old.floor ≤ length (records_of self.old.spine) }
+        ensures spine { self.new.spine ≡ self.old.spine }
+        ensures told { IsToldOf self.new.spine pass.old (told_of self.new) }
+        ensures own { (told_of self.new).own ≡ (told_of self.old).own }
+        ensures back { pass.new ≡ self.old.pass }
+        ensures back_reached { pass.new.floor ≤ length (records_of self.new.spine) }
+    {
+        mem::swap(&mut self.pass, pass);
     }
 }
 

@@ -1,4 +1,5 @@
 pub mod Records
+pub mod CodedRecords
 pub mod Script
 pub mod InRange
 pub mod Sound
