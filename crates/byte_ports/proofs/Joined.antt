@@ -6,7 +6,7 @@ use Rattle.std.proofs.lemmas.Grind.{flat_map-append}
 use Rattle.std.specs.List.{flat_map}
 use Rattle.std.specs.Prelude.{Option, Some, None, Result, Ok, Err}
 use Rattle.byte_ports.specs.declared.Failed.{Failed}
-use Rattle.byte_ports.specs.Sinks.{SinkView, plus, Whole, Part, Writes}
+use Rattle.byte_ports.specs.Sinks.{SinkView, GoesOn, plus, Whole, Part, Writes}
 
 -- a text after another is the two joined
 pub plus-plus : (written : Option (List ℕ)) (first second : List ℕ)
@@ -19,16 +19,28 @@ pub plus-none : (written : Option (List ℕ)) → written ≡ plus written []
 plus-none None = refl
 plus-none (Some written) = ap Some (sym (append-nil written))
 
+-- a sink that is left alone goes on as it is
+pub goes_alone : (old : SinkView) → GoesOn old old
+goes_alone old = record { faults = omega arith; levels = λ n. omega arith; reference = refl }
+
+-- one write after another
+pub goes_then : (old between new : SinkView) → GoesOn old between → GoesOn between new → GoesOn old new
+goes_then old between new before after = record {
+  faults = omega (arith, before.faults, after.faults);
+  levels = λ n. omega (arith, before.levels n, after.levels n);
+  reference = after.reference ∙ before.reference;
+}
+
 -- nothing written is the empty text, whole
 pub whole_none : (old : SinkView) → Whole old old []
-whole_none old = record { written = plus-none old.written; faults = omega arith }
+whole_none old = record { written = plus-none old.written; goes_on = goes_alone old }
 
 -- whole, then whole
 pub whole_then : (old between new : SinkView) (first second : List ℕ)
     → Whole old between first → Whole between new second → Whole old new (first ++ second)
 whole_then old between new first second before after = record {
   written = after.written ∙ ap (λ w. plus w second) before.written ∙ plus-plus old.written first second;
-  faults = omega (arith, before.faults, after.faults);
+  goes_on = goes_then old between new before.goes_on after.goes_on;
 }
 
 -- whole, then part
@@ -42,8 +54,8 @@ part_then old between new first second before after =
       upto = length first + upto;
       within = omega (arith, after.within, length-append first second);
       written = joined ∙ ap (plus old.written) (sym (take-append-add first second upto));
-      rose = omega (arith, before.faults, after.rose);
-      faults = omega (arith, before.faults, after.faults);
+      rose = omega (arith, before.goes_on.faults, after.rose);
+      goes_on = goes_then old between new before.goes_on after.goes_on;
     }
 
 -- a part of the first text is a part of both
@@ -53,7 +65,7 @@ part_first old new first second part = record {
   within = omega (arith, part.within, length-append first second);
   written = rw (take-append-le part.upto first second part.within) part.written;
   rose = part.rose;
-  faults = part.faults;
+  goes_on = part.goes_on;
 }
 
 -- a whole text, and then a call that writes the rest

@@ -1,5 +1,5 @@
 -- A sink over memory of a fixed room, some of whose calls fail.
-use Rattle.std.specs.Prelude.{◌≡◌, ℕ, ◌-◌, ◌<◌, ◌≤◌, ◌⊎◌, List, true, false, Some, ◌++◌, take, length, min, Result, Ok, Err}
+use Rattle.std.specs.Prelude.{◌≡◌, ℕ, ◌-◌, ◌<◌, ◌≤◌, ◌⊎◌, List, [], true, false, Some, ◌++◌, take, length, min, Result, Ok, Err}
 use Rattle.counts.specs.Raised.{raised}
 use Rattle.byte_ports.specs.Sinks.{SinkView}
 use Rattle.byte_ports.specs.MemorySources.{is_listed}
@@ -16,7 +16,7 @@ pub record MemorySinkState : Type 0 where
 
 -- what it tells as a sink
 abbrev pub sink_view_of : MemorySinkState → SinkView
-sink_view_of state = record { written = Some state.written; faults = state.faults }
+sink_view_of state = record { written = Some state.written; levels = []; faults = state.faults; reference = 0 }
 
 -- a call that is not listed takes as many bytes as the room still holds
 pub record Accepts (old new : MemorySinkState) (piece : List ℕ) (count : ℕ) : Type 0 where

@@ -4,6 +4,7 @@
 //! contracts where it knows them: the ports over memory do, those over std's readers and writers do not.
 #![tactic(auto)]
 
+mod block_sink;
 mod memory_sink;
 mod memory_source;
 mod sink;
@@ -12,6 +13,7 @@ mod std_ports;
 #[cfg(test)]
 mod tests;
 
+pub use block_sink::BlockSink;
 pub use memory_sink::MemorySink;
 pub use memory_source::MemorySource;
 pub use sink::{Sink, write_whole};

@@ -17,6 +17,17 @@ pub trait Sink {
         ensures { WritesSome (sink_view self.old) (sink_view self.new) piece.now result };
 }
 
+/// A sink that is borrowed: it is behind this reference.
+impl<K: Sink> Sink for &mut K {
+    ghost use Rattle.byte_ports.specs.Sinks.{behind};
+
+    ghost sink_view = { λ s. behind s.ghost_name (K.sink_view s.now) };
+
+    fn write(&mut self, piece: &[u8]) -> Result<usize, Failed> {
+        (**self).write(piece)
+    }
+}
+
 /// Appends all of `piece`. After `Failed` its first bytes are appended and the count of faults rose.
 #[tactic(auto, using(crate::proofs::Joined::whole_none))]
 pub fn write_whole<K: Sink>(sink: &mut K, piece: &[u8]) -> Result<(), Failed>

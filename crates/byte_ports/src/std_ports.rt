@@ -1,5 +1,5 @@
 //! Ports over std's readers and writers: the trusted edge, which tells no bytes.
-ghost use Rattle.std.specs.Prelude.{◌≡◌, ◌<◌, length, None, OnOk, OnErr};
+ghost use Rattle.std.specs.Prelude.{◌≡◌, ◌<◌, length, None, [], OnOk, OnErr};
 ghost use Rattle.counts.specs.Raised.{raised};
 
 use crate::{Failed, Sink, Source};
@@ -61,18 +61,18 @@ pub struct StdSink<W> {
 }
 
 impl<W> Model for StdSink<W> {
-    ghost use Rattle.std.specs.Prelude.{None};
+    ghost use Rattle.std.specs.Prelude.{None, []};
     ghost use Rattle.byte_ports.specs.Sinks.{SinkView};
 
     ghost Value = { SinkView };
 
-    ghost view = { λ s. record { written = None; faults = s.faults } };
+    ghost view = { λ s. record { written = None; levels = []; faults = s.faults; reference = 0 } };
 }
 
 impl<W> StdSink<W> {
     /// Writes to `inner`, with no fault so far.
     pub fn start(inner: W) -> StdSink<W>
-        ensures { result ≡ record { written = None; faults = 0 } }
+        ensures { result ≡ record { written = None; levels = []; faults = 0; reference = 0 } }
     {
         StdSink { inner, faults: 0 }
     }

@@ -160,3 +160,62 @@ fn ports_over_std(rt: HostRuntime) -> Result<(), Fail> {
     assert!(rt; write_whole(&mut StdSink::start(Broken), b"a").is_err());
     Ok(())
 }
+
+/// Writes the texts through blocks of `room` bytes to the sink, and hands on the last block.
+fn gathered(
+    alloc: Global,
+    room: usize,
+    out: &mut MemorySink,
+    texts: &[&[u8]],
+) -> Result<bool, AllocError>
+    requires { 1 ≤ room }
+{
+    let block = Vec::with_capacity(alloc, room)?;
+    let mut blocks = BlockSink::start(block, out);
+    let mut written = Ok(());
+    for text in texts {
+        if written.is_ok() {
+            written = write_whole(&mut blocks, text);
+        }
+    }
+    let (_, ended) = blocks.finish(written);
+    Ok(ended.is_ok())
+}
+
+/// Some texts of which one is empty and one is longer than each block but the last of those tried.
+static TEXTS: [&[u8]; 4] = [b"ab", b"", b"cdefghijk", b"l"];
+
+#[test]
+fn blocks_hand_on_what_is_written(rt: HostRuntime) -> Result<(), Fail> {
+    let alloc = rt.alloc();
+    for (room, most) in [(1, 9), (2, 1), (3, 2), (4, 3), (5, 9), (12, 5), (20, 7)] {
+        let mut out = MemorySink::start(alloc, 100, Vec::new(alloc))?.pieces(most);
+        assert!(rt;
+            gathered(alloc, room, &mut out, TEXTS.as_slice())?,
+            "{room}"
+        );
+        assert_eq!(rt; out.bytes(), "abcdefghijkl".as_bytes(), "{room}");
+    }
+    Ok(())
+}
+
+#[test]
+fn a_failed_write_below_leaves_a_prefix(rt: HostRuntime) -> Result<(), Fail> {
+    let alloc = rt.alloc();
+    // Blocks of five bytes, of which two are handed on a call: 2, 2, 1, 2, 2, 1, 2.
+    for (call, held) in [
+        (0, ""),
+        (1, "ab"),
+        (2, "abcd"),
+        (3, "abcde"),
+        (5, "abcdefghi"),
+        (6, "abcdefghij"),
+        (7, "abcdefghijkl"),
+    ] {
+        let mut out = MemorySink::start(alloc, 100, one(alloc, call)?)?.pieces(2);
+        let is_whole = gathered(alloc, 5, &mut out, TEXTS.as_slice())?;
+        assert_eq!(rt; is_whole, call == 7, "call {call}");
+        assert_eq!(rt; out.bytes(), held.as_bytes(), "call {call}");
+    }
+    Ok(())
+}
