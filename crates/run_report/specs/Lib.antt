@@ -10,3 +10,4 @@ pub mod TextParts
 pub mod Ranges
 pub mod Readable
 pub mod Shorthands
+pub mod Summary

@@ -9,6 +9,7 @@ pub mod mounting;
 mod mounts;
 mod pieces;
 mod report;
+mod summary;
 #[cfg(test)]
 mod tests;
 mod views;
@@ -16,3 +17,4 @@ mod views;
 pub use journal::{ActorPart, Journal, MountPart, StepName, StepPart, SurfacePart};
 pub use pieces::{Piece, write_pieces, write_tag_line};
 pub use report::write_report;
+pub use summary::write_summary;
