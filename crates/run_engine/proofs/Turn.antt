@@ -1,5 +1,5 @@
 -- What a turn's calls promise.
-use Rattle.std.proofs.Common.{◌≡◌, ℕ, zero, suc, List, [], ◌∷◌, ◌++◌, length, drop, map, find, slice_get, slice_set, ap, sym, ◌∙◌, subst}
+use Rattle.std.proofs.Common.{◌≡◌, ℕ, zero, suc, List, [], ◌∷◌, ◌++◌, length, drop, map, find, slice_get, slice_set, refl, ap, sym, ◌∙◌, subst}
 use Rattle.std.specs.Prelude.{nat_eq, Some, None, unwrap_or, option_and_then, option_map}
 use Rattle.std.proofs.lemmas.Option.{none-some, same_Some, slice_get-map}
 use Rattle.std.proofs.lemmas.List.Sums.{fold_push}
@@ -7,7 +7,7 @@ use Rattle.tree_revision.specs.Script.{PlainAct, PlainStep}
 use Rattle.script_read.specs.Plain.{plain_act, plain_step}
 use Rattle.script_read.specs.declared.script.Step.{Step}
 use Rattle.run_report.specs.Machine.{ActorNow, after_event, after_turn, run_of, with_moment}
-use Rattle.run_report.specs.Shorthands.{after_event_of}
+use Rattle.run_report.specs.Shorthands.{after_event_of, after_event_by, after_event_on}
 use Rattle.run_report.proofs.Kept.{IsRunOf}
 use Rattle.run_report.proofs.Begun.{run_begun}
 use Rattle.run_report.proofs.Runs.{turns_kept}
@@ -29,6 +29,22 @@ left_at [] n step e = absurd (none-some step e)
 left_at (s ∷ steps) zero step e = ap (option_map plain_step) e
 left_at (s ∷ steps) (suc n) step e = left_at steps n step e
 
+-- and the steps after it
+pub left_is : (steps : List Step) (n : ℕ) (step : Step) → slice_get steps n ≡ Some step → (rest : List PlainStep) × (drop n (map plain_step steps) ≡ plain_step step ∷ rest)
+left_is [] n step e = absurd (none-some step e)
+left_is (s ∷ steps) zero step e = (map plain_step steps, ap (λ s. plain_step s ∷ map plain_step steps) (same_Some s step e))
+left_is (s ∷ steps) (suc n) step e = left_is steps n step e
+
+-- where none is left, there is none
+pub none_left : (steps : List Step) (n : ℕ) → slice_get steps n ≡ None → drop n (map plain_step steps) ≡ []
+none_left [] n e = drop_nothing n
+  where
+    drop_nothing : (n : ℕ) → drop n (map plain_step []) ≡ []
+    drop_nothing zero = refl
+    drop_nothing (suc n) = refl
+none_left (s ∷ steps) zero e = absurd (none-some s (sym e))
+none_left (s ∷ steps) (suc n) e = none_left steps n e
+
 -- one actor stands at a place
 pub left_same : (actors : List Actor) (n : ℕ) (a b : Actor) (step : Step) → slice_get actors n ≡ Some a → slice_get actors n ≡ Some b → slice_get a.steps (length a.answers) ≡ Some step
     → slice_get b.steps (length b.answers) ≡ Some step
@@ -41,6 +57,15 @@ pub found_at : (desks read : List Desk) (id place : ℕ) (desk : Desk) → read 
 found_at desks read id place desk same at e =
     ap (λ l. find (λ surface. nat_eq surface.id id) (map surface_now l)) (sym same) ∙ e ∙ ap (λ l. option_map surface_now (slice_get l place)) same ∙ ap (option_map surface_now) at
 
+-- no event takes place where no step is left
+pub has_ended : (run : Run) → HasCome run → (number : ℕ) (actor : Actor) → slice_get run.actors.items number ≡ Some actor → slice_get actor.steps (length actor.answers) ≡ None
+    → HasTurned run run number
+has_ended run come number actor at none = record {
+  now = sym (ap (after_event_of (run_now run) number) (slice_get-map actor_now run.actors.items number ∙ ap (option_map actor_now) at)
+      ∙ ap (after_event_by (run_now run) number (actor_now actor)) (none_left actor.steps (length actor.answers) none));
+  come = come;
+}
+
 -- no event takes place where no surface is found
 pub has_rested : (run : Run) → HasCome run → (number : ℕ) (actor : Actor) → slice_get run.actors.items number ≡ Some actor → (step : Step) → slice_get actor.steps (length actor.answers) ≡ Some step
     → find (λ surface. nat_eq surface.id step.surface) (map surface_now run.desks.items) ≡ None → (new : Run) → new ≡ run → HasTurned run new number
@@ -49,9 +74,8 @@ has_rested run come number actor at step left none new same =
     let at_now : slice_get (map actor_now run.actors.items) number ≡ Some now = slice_get-map actor_now run.actors.items number ∙ ap (option_map actor_now) at in
     subst (λ new. HasTurned run new number) (sym same) (record {
       now = sym (ap (after_event_of (run_now run) number) at_now
-          ∙ ap (λ found. unwrap_or (option_and_then (λ (step : PlainStep). option_map (λ surface. with_moment (run_now run) number (after_event number step.act surface now))
-          (find (λ surface. nat_eq surface.id step.surface) (map surface_now run.desks.items))) found) (run_now run)) (left_at actor.steps (length actor.answers) step left)
-          ∙ ap (λ found. unwrap_or (option_map (λ surface. with_moment (run_now run) number (after_event number (plain_act step.act) surface now)) found) (run_now run)) none);
+          ∙ ap (after_event_by (run_now run) number now) (left_is actor.steps (length actor.answers) step left).1
+          ∙ ap (after_event_on (run_now run) number now (plain_act step.act)) none);
       come = come;
     })
 

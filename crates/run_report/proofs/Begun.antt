@@ -1,34 +1,33 @@
 -- A run before its first turn keeps what a run keeps.
-use Rattle.std.proofs.Common.{◌≡◌, ℕ, true, List, [], ◌∷◌, map, nat_eq, slice_get, option_map, Option, Some, None, arith, refl, ap, sym, ◌∙◌, subst}
+use Rattle.std.proofs.Common.{◌≡◌, ℕ, List, [], map, nat_eq, slice_get, option_map, Option, Some, None, arith, refl, ap, sym, ◌∙◌, subst, filter}
 use Rattle.std.specs.List.{AllByRecursion}
 use Rattle.std.proofs.lemmas.Option.{same_Some, slice_get-map}
 use Rattle.std.proofs.lemmas.List.{length-map}
 use Rattle.shadow_frame.specs.declared.Size.{Size}
 use Rattle.tree_revision.specs.Records.{PlainRecord}
-use Rattle.tree_revision.specs.Script.{PlainStep, PlainActor, PlainSurface, PlainScript}
+use Rattle.tree_revision.specs.Script.{PlainActor, PlainSurface, PlainScript}
 use Rattle.run_report.specs.Journal.{PlainActorPart}
 use Rattle.run_report.specs.Mounts.{passages_by, last_to}
 use Rattle.run_report.specs.Shorthands.{passages_named, opened, begun}
 use Rattle.run_report.specs.Legal.{FollowOn}
 use Rattle.run_report.specs.Machine.{actor_part_of, run_of}
+use Rattle.run_report.specs.Wishes.{Wish, as_written}
 use Rattle.run_report.proofs.Lists.{numbered_none, all_true, all_map}
 use Rattle.run_report.proofs.Pairs.{each_begun, all_zip_begun}
 use Rattle.run_report.proofs.Looks.{taken_after-none}
-use Rattle.run_report.proofs.Kept.{IsGoodStep, IsUnderWay, IsActorOn, parts_of, IsSurfaceKept, IsActorOf, IsSurfaceOf, IsRunOf}
+use Rattle.run_report.specs.ActorLegal.{IsLegalStep, IsLegalSoFar}
+use Rattle.run_report.proofs.Kept.{parts_of, IsHookedSurface, IsActorOf, IsSurfaceOf, IsHookedRun, IsRunOf}
+use Rattle.run_report.proofs.Actors.{under_way_fresh}
 
--- no step is under way
-pub under_way_begun : (first : Size) (id : ℕ) (records : List PlainRecord) (actor : PlainActor) (left : List PlainStep) → IsUnderWay first id records (begun actor) left
-under_way_begun first id records actor [] = tt
-under_way_begun first id records actor (step ∷ steps) = λ on entries m. omega arith
-
--- an actor that has not begun keeps what it is to keep
-pub actor_on_begun : (first : Size) (id : ℕ) (records : List PlainRecord) (number : ℕ) (actor : PlainActor) → IsActorOn first id records number actor.steps (begun actor)
-actor_on_begun first id records number actor = record {
-  point = λ entries m. omega arith;
-  holds = omega arith;
-  under_way = under_way_begun first id records actor actor.steps;
-  taken = λ entries m.
-      subst (AllByRecursion (λ taken. nat_eq taken.step.surface id ≡ true → IsGoodStep first id entries taken)) (sym (taken_after-none number [] actor.steps)) tt;
+-- an actor that has not begun is legal
+pub legal_begun : (wish : Wish) (first : Size) (id : ℕ) (records : List PlainRecord) (floor number : ℕ) (actor : PlainActor) → IsLegalSoFar wish first id records floor number actor.steps (begun actor)
+legal_begun wish first id records floor number actor = record {
+  answers = record {
+    taken = λ entries m. subst (λ l. AllByRecursion (IsLegalStep wish first id entries) (filter (λ taken. nat_eq taken.step.surface id) l)) (sym (taken_after-none number [] actor.steps)) tt;
+    point = λ entries m. omega arith;
+    holds = omega arith;
+  };
+  under_way = under_way_fresh wish first id records floor (begun actor) actor.steps refl refl;
 }
 
 -- no passage is named
@@ -46,23 +45,26 @@ passages_begun id actors =
         (is j (slice_get actors j) part (sym (slice_get-map actor_part_of (map begun actors) j ∙ ap (option_map actor_part_of) (slice_get-map begun actors j)) ∙ at))
 
 -- so does a surface
-pub surface_begun : (script : PlainScript) (surface : PlainSurface) → IsSurfaceKept script (map begun script.actors) (opened surface)
-surface_begun script surface = record {
+pub surface_begun : (wish : Wish) (script : PlainScript) (surface : PlainSurface) → IsHookedSurface wish script (map begun script.actors) (opened surface)
+surface_begun wish script surface = record {
   lawful = tt;
   base = omega arith;
   forward = subst (FollowOn 0) (sym (passages_begun surface.id script.actors)) tt;
   last = ap last_to (passages_begun surface.id script.actors);
-  records = tt;
-  actors_on = each_begun (λ n a b. IsActorOn surface.size surface.id [] n a.steps b) begun script.actors (λ i a. actor_on_begun surface.size surface.id [] i a);
+  named = λ entries m. tt;
+  actors_on = each_begun (λ n a b. IsLegalSoFar wish surface.size surface.id [] 0 n a.steps b) begun script.actors (λ i a. legal_begun wish surface.size surface.id [] 0 i a);
   mounters = each_begun _ begun script.actors (λ i a m. refl);
 }
 
 -- and so does the run
-pub run_begun : (script : PlainScript) → IsRunOf script (run_of script)
-run_begun script = record {
+pub hooked_run_begun : (wish : Wish) (script : PlainScript) → IsHookedRun wish script (run_of script)
+hooked_run_begun wish script = record {
   surfaces = all_zip_begun IsSurfaceOf opened script.surfaces (λ s. record { id = refl; first = refl });
   count = length-map script.actors begun;
-  actors = each_begun (λ n a b. IsActorOf a b) begun script.actors (λ i a. record { name = refl; done = []; steps = refl; answers = tt });
-  kept = all_map (IsSurfaceKept script (map begun script.actors)) opened script.surfaces
-      (all_true (λ s. IsSurfaceKept script (map begun script.actors) (opened s)) (surface_begun script) script.surfaces);
+  actors = each_begun (λ n a b. IsActorOf a b) begun script.actors (λ i a. record { name = refl; through = record { done = []; whole = refl; answers = tt } });
+  kept = all_map (IsHookedSurface wish script (map begun script.actors)) opened script.surfaces
+      (all_true (λ s. IsHookedSurface wish script (map begun script.actors) (opened s)) (surface_begun wish script) script.surfaces);
 }
+
+pub run_begun : (script : PlainScript) → IsRunOf script (run_of script)
+run_begun = hooked_run_begun as_written

@@ -18,6 +18,7 @@ use Rattle.run_report.specs.Named.{IsByActor, NamesActors, NamesItsActors}
 use Rattle.run_report.specs.Mounts.{Passage, passage_of, passages_by, passages_on, last_to, passage_in}
 use Rattle.run_report.specs.Shorthands.{passage, passage_on, passages_named}
 use Rattle.run_report.specs.Legal.{Answers, IsOfItsStep, CommitsStandOnce, IsLegalOn, IsLegal}
+use Rattle.run_report.specs.Wishes.{as_written}
 use Rattle.run_report.specs.Ranges.{IsInRange}
 use Rattle.run_report.specs.Readable.{HasNames, IsReadable}
 
@@ -72,23 +73,23 @@ all_from_map P f [] p = All-nil (λ x. P (f x))
 all_from_map P f (x ∷ xs) p = All-cons (λ x. P (f x)) x xs (All-head P (f x) (map f xs) p) (all_from_map P f xs (All-tail P (f x) (map f xs) p))
 
 -- a record of a step is by an actor of the script
-record_within : (script : PlainScript) (journal : PlainJournal) (id n : ℕ) (entry : PlainRecord) → IsOfItsStep script journal id n entry → entry.actor < length script.actors
-record_within script journal id n entry p =
-    option_and_then_some (λ actor. slice_get actor.steps entry.call) (slice_get script.actors entry.actor) (record { surface = id; act = commit entry.op }) p.step
+record_within : (script : PlainScript) (journal : PlainJournal) (id : ℕ) (whole : List PlainRecord) (n : ℕ) (entry : PlainRecord) → IsOfItsStep as_written script journal id whole n entry → entry.actor < length script.actors
+record_within script journal id whole n entry p =
+    option_and_then_some (λ actor. slice_get actor.steps entry.call) (slice_get script.actors entry.actor) (record { surface = id; act = commit p.change }) p.step
     (λ actor found step. slice_get_within script.actors entry.actor actor found)
 
 -- so are records of their steps
-records_within : (script : PlainScript) (journal : PlainJournal) (id n : ℕ) (entries : List PlainRecord)
-    → AllByRecursion (λ entry. IsOfItsStep script journal id entry.0 entry.1) (enumerate_from n entries) → All (λ entry. entry.actor < length script.actors) entries
-records_within script journal id n [] p = All-nil (λ (entry : PlainRecord). entry.actor < length script.actors)
-records_within script journal id n (entry ∷ entries) p =
-    All-cons (λ (each : PlainRecord). each.actor < length script.actors) entry entries (record_within script journal id n entry p.0) (records_within script journal id (n + 1) entries p.1)
+records_within : (script : PlainScript) (journal : PlainJournal) (id : ℕ) (whole : List PlainRecord) (n : ℕ) (entries : List PlainRecord)
+    → AllByRecursion (λ entry. IsOfItsStep as_written script journal id whole entry.0 entry.1) (enumerate_from n entries) → All (λ entry. entry.actor < length script.actors) entries
+records_within script journal id whole n [] p = All-nil (λ (entry : PlainRecord). entry.actor < length script.actors)
+records_within script journal id whole n (entry ∷ entries) p =
+    All-cons (λ (each : PlainRecord). each.actor < length script.actors) entry entries (record_within script journal id whole n entry p.0) (records_within script journal id whole (n + 1) entries p.1)
 
 -- a legal surface names actors of the journal
 part_names : (script : PlainScript) (journal : PlainJournal) (first : Size) (part : PlainSurfacePart) → length journal.actors ≡ length script.actors
-    → IsLegalOn script journal first part → NamesActors (length journal.actors) part
+    → IsLegalOn as_written script journal first part → NamesActors (length journal.actors) part
 part_names script journal first part same p = record {
-  records = subst (λ count. All (λ (entry : PlainRecord). entry.actor < count) part.records) (sym same) (records_within script journal part.id 1 part.records p.commits_stand_once.records);
+  records = subst (λ count. All (λ (entry : PlainRecord). entry.actor < count) part.records) (sym same) (records_within script journal part.id part.records 1 part.records p.commits_stand_once.records);
   mounts =
       all_from_map (IsPassageBy (length journal.actors)) passage_in part.mounts
       (subst (All (IsPassageBy (length journal.actors))) (sym p.mounts_follow_on.passages) (surface_passages part.id part.records journal.actors));
@@ -107,7 +108,7 @@ legal_names script journal legal =
     let same : length journal.actors ≡ length script.actors =
     AllZip-long (λ (actor : PlainActor) (part : PlainActorPart). AllZip Answers actor.steps part.steps) script.actors journal.actors legal.form.answers in
     All-from_recursion (NamesActors (length journal.actors)) journal.surfaces
-    (all_second (λ (surface : PlainSurface) (part : PlainSurfacePart). IsLegalOn script journal surface.size part) (NamesActors (length journal.actors)) script.surfaces journal.surfaces
+    (all_second (λ (surface : PlainSurface) (part : PlainSurfacePart). IsLegalOn as_written script journal surface.size part) (NamesActors (length journal.actors)) script.surfaces journal.surfaces
     (λ surface part p. part_names script journal surface.size part same p) legal.surfaces)
 
 -- a sound script has names, and a legal journal of it in range is told by its report
@@ -117,8 +118,8 @@ legal_told script journal sound legal ranges = (
   record {
     form = legal.form;
     commits =
-        all_second (λ (surface : PlainSurface) (part : PlainSurfacePart). IsLegalOn script journal surface.size part)
-        (λ part. CommitsStandOnce script journal part.id part.records) script.surfaces journal.surfaces (λ surface part p. p.commits_stand_once) legal.surfaces;
+        all_second (λ (surface : PlainSurface) (part : PlainSurfacePart). IsLegalOn as_written script journal surface.size part)
+        (λ part. CommitsStandOnce as_written script journal part.id part.records) script.surfaces journal.surfaces (λ surface part p. p.commits_stand_once) legal.surfaces;
     names = legal_names script journal legal;
     ranges = ranges;
   },

@@ -1,7 +1,11 @@
+pub mod ActorEvents
 pub mod Actors
+pub mod AdmittedRecords
 pub mod AtEnd
+pub mod Begins
 pub mod Begun
 mod Ending
+pub mod EventLegal
 pub mod Events
 mod Followed
 mod Good
@@ -11,6 +15,7 @@ mod Lines
 pub mod Lists
 pub mod Looks
 pub mod Pairs
+pub mod PartsLegal
 pub mod Passages
 mod Rows
 pub mod LineWords
@@ -29,5 +34,6 @@ pub mod JournalBack
 pub mod LegalTold
 pub mod Runs
 pub mod Surfaces
+pub mod Together
 pub mod Turns
 mod States

@@ -1,6 +1,7 @@
 -- Where answers look, what they leave, and what is held, after one more answer.
-use Rattle.std.proofs.Common.{◌≡◌, ℕ, ◌+◌, ◌-◌, ◌≤◌, false, cond, List, [], ◌∷◌, ◌++◌, length, take, nat_eq, unwrap_or, Some, arith, refl, ap, sym, ◌∙◌, subst, append_assoc, append-nil, length-append, add-one, take_at, eq-eqb}
+use Rattle.std.proofs.Common.{◌≡◌, ℕ, ◌+◌, ◌-◌, ◌≤◌, false, cond, List, [], ◌∷◌, ◌++◌, length, take, nat_eq, unwrap_or, Some, arith, refl, ap, sym, ◌∙◌, subst, append_assoc, append-nil, add-one, eq-eqb, filter}
 use Rattle.std.specs.List.{AllZip}
+use Rattle.std.proofs.lemmas.List.Elements.{filter-append}
 use Rattle.std.proofs.lemmas.List.Sums.{fold_push}
 use Rattle.tree_revision.specs.Records.{PlainRecord}
 use Rattle.tree_revision.specs.Script.{PlainStep}
@@ -10,27 +11,9 @@ use Rattle.run_report.specs.declared.journal.StepPart.{StepPart}
 use Rattle.run_report.specs.Points.{first_mountable, point_left, point_before, held_after, number_held, mounted_after}
 use Rattle.run_report.specs.Shorthands.{number_mounted}
 use Rattle.run_report.specs.Legal.{TakenStep, taken_after, record_at, Answers}
+use Rattle.run_report.specs.Machine.{ActorNow}
+use Rattle.run_report.specs.ActorLegal.{taken_by, GoesThrough}
 use Rattle.run_report.proofs.Lists.{slice_get_at, find_first}
-
--- entries that begin with those records
-abbrev pub IsMore : List PlainRecord → List PlainRecord → Type 0
-IsMore records entries = (more : List PlainRecord) × (entries ≡ records ++ more)
-
--- records begin with themselves
-pub is_more_self : (records : List PlainRecord) → IsMore records (records ++ [])
-is_more_self records = ([], refl)
-
--- entries that begin with one record more begin with the records
-pub is_more_push : (records : List PlainRecord) (entry : PlainRecord) (entries : List PlainRecord) → IsMore (records ++ entry ∷ []) entries → IsMore records entries
-is_more_push records entry entries h = (entry ∷ h.0, h.1 ∙ append_assoc records (entry ∷ []) h.0)
-
--- they are no fewer
-pub is_more_length : (records entries : List PlainRecord) → IsMore records entries → length records ≤ length entries
-is_more_length records entries h = omega (arith, length-append records h.0, ap length h.1)
-
--- and the first of them are the records
-pub is_more_take : (records entries : List PlainRecord) → IsMore records entries → take (length records) entries ≡ records
-is_more_take records entries h = ap (take (length records)) h.1 ∙ take_at records h.0 (length records) refl
 
 -- one more answer on the surface leaves its own point
 pub point_before-push : (id : ℕ) (entries : List PlainRecord) (earlier : List StepPart) (part : StepPart) → part.surface ≡ id
@@ -109,3 +92,16 @@ taken_after-push actor earlier (d ∷ done) step rest (p ∷ parts) part h =
     ap (λ l. taken_step actor earlier d p.answer ∷ l)
     (taken_after-push actor (earlier ++ p ∷ []) done step rest parts part h.1
     ∙ ap (λ x. taken_after actor (earlier ++ p ∷ []) (done ++ step ∷ rest) parts ++ taken_step actor x step part.answer ∷ []) (append_assoc earlier (p ∷ []) parts))
+
+-- the steps that were taken on a surface, and one more where it is on it
+pub taken_by-push : (number : ℕ) (steps : List PlainStep) (actor : ActorNow) (step : PlainStep) (rest : List PlainStep) (part : StepPart) (id : ℕ)
+    → GoesThrough steps actor → actor.left ≡ step ∷ rest
+    → taken_by number steps (actor.answers ++ part ∷ []) id
+    ≡ taken_by number steps actor.answers id ++ cond (nat_eq step.surface id) (taken_step number actor.answers step part.answer ∷ []) []
+taken_by-push number steps actor step rest part id of left =
+    let p = λ (taken : TakenStep). nat_eq taken.step.surface id in
+    let whole : steps ≡ of.done ++ step ∷ rest = of.whole ∙ ap (λ l. of.done ++ l) left in
+    ap (λ l. filter p (taken_after number [] l (actor.answers ++ part ∷ []))) whole
+    ∙ ap (filter p) (taken_after-push number [] of.done step rest actor.answers part of.answers)
+    ∙ filter-append p (taken_after number [] (of.done ++ step ∷ rest) actor.answers) (taken_step number actor.answers step part.answer ∷ [])
+    ∙ ap (λ l. filter p (taken_after number [] l actor.answers) ++ cond (nat_eq step.surface id) (taken_step number actor.answers step part.answer ∷ []) []) (sym whole)

@@ -1,8 +1,8 @@
 -- Two lists of which each two items at one place agree.
-use Rattle.std.proofs.Common.{◌≡◌, ℕ, suc, List, [], ◌∷◌, ◌++◌, length, map, slice_get, slice_set, option_map, Some, arith, refl, ap, sym, ◌∙◌, subst, inl, inr}
+use Rattle.std.proofs.Common.{◌≡◌, ℕ, zero, suc, List, [], ◌∷◌, ◌++◌, length, map, slice_get, slice_set, option_map, Some, arith, refl, ap, sym, ◌∙◌, subst, inl, inr}
 use Rattle.std.specs.List.{AllByRecursion, AllZip}
 use Rattle.std.proofs.lemmas.Bool.{cases_eq}
-use Rattle.std.proofs.lemmas.Option.{same_Some, slice_get-map}
+use Rattle.std.proofs.lemmas.Option.{none-some, same_Some, slice_get-map}
 use Rattle.run_report.proofs.Lists.{slice_get-set_same, slice_get-set_other}
 
 -- something holds of each two items that stand at one place of two lists
@@ -47,6 +47,14 @@ all_zip_length R [] [] h = refl
 all_zip_length R [] (y ∷ ys) h = absurd h
 all_zip_length R (x ∷ xs) [] h = absurd h
 all_zip_length R (x ∷ xs) (y ∷ ys) h = ap suc (all_zip_length R xs ys h.1)
+
+-- and each two items at one place agree
+pub all_zip_at : {A B : Type 0} (R : A → B → Type 0) (xs : List A) (ys : List B) (i : ℕ) (x : A) (y : B) → AllZip R xs ys
+    → slice_get xs i ≡ Some x → slice_get ys i ≡ Some y → R x y
+all_zip_at R [] ys i x y h s t = absurd (none-some x s)
+all_zip_at R (z ∷ xs) [] i x y h s t = absurd h
+all_zip_at R (z ∷ xs) (w ∷ ys) zero x y h s t = subst (λ a. R a y) (same_Some z x s) (subst (λ b. R z b) (same_Some w y t) h.0)
+all_zip_at R (z ∷ xs) (w ∷ ys) (suc i) x y h s t = all_zip_at R xs ys i x y h.1 s t
 
 -- what holds of each two items at one place, of two lists of one length
 pub all_zip_each : {A B : Type 0} (R : A → B → Type 0) (xs : List A) (ys : List B) → length ys ≡ length xs

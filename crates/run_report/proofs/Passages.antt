@@ -1,26 +1,23 @@
 -- The passages that answers name, and the records of steps, after one more answer.
-use Rattle.std.proofs.Common.{◌≡◌, ℕ, ◌+◌, ◌≤◌, ◌<◌, Bool, true, false, cond, ◌&&◌, List, [], ◌∷◌, ◌++◌, length, take, nat_eq, slice_get, slice_set, option_map, option_and_then, unwrap_or, Option, Some, None, arith, refl, ap, sym, ◌∙◌, subst, true≢false, inl, inr}
+use Rattle.std.proofs.Common.{◌≡◌, ℕ, ◌+◌, ◌<◌, Bool, true, false, cond, ◌&&◌, List, [], ◌∷◌, ◌++◌, length, nat_eq, slice_get, slice_set, option_map, Option, Some, None, arith, refl, ap, sym, ◌∙◌, subst, append-nil, true≢false, inl, inr}
 use Rattle.std.specs.List.{AllZip, fold, flat_map, enumerate_from, list_any}
 use Rattle.std.proofs.lemmas.Bool.{or_parts, and_cases}
-use Rattle.std.proofs.lemmas.Option.{slice_get-map, slice_get_within, same_Some}
-use Rattle.std.proofs.lemmas.List.{map-set, take-append-le}
+use Rattle.std.proofs.lemmas.Option.{slice_get-map, same_Some}
+use Rattle.std.proofs.lemmas.List.{map-set}
 use Rattle.std.proofs.lemmas.List.Sums.{fold_push}
-use Rattle.tree_revision.specs.Records.{PlainRecord}
-use Rattle.tree_revision.specs.Script.{PlainAct, commit, hold, mount, PlainStep, PlainActor, PlainScript}
+use Rattle.tree_revision.specs.Script.{PlainAct, commit, hold, mount, PlainStep, PlainActor}
 use Rattle.tree_revision.specs.Sound.{is_mount, mounts_on}
 use Rattle.tree_revision.specs.declared.record.Answer.{Answer}
 use Rattle.tree_revision.specs.declared.record.Answer.TheVariants.{Held, Admitted, Cancelled, Mounted, Empty}
 use Rattle.run_report.specs.declared.journal.StepName.{StepName}
 use Rattle.run_report.specs.declared.journal.StepPart.{StepPart}
 use Rattle.run_report.specs.Journal.{PlainActorPart}
-use Rattle.run_report.specs.Points.{number_held}
 use Rattle.run_report.specs.Mounts.{Passage, passage_of, passages_by, last_to}
-use Rattle.run_report.specs.Shorthands.{passage_on, passages_named, answer_named, answers_before}
-use Rattle.run_report.specs.Legal.{IsAnswerTo, Answers, FollowOn, name_of}
+use Rattle.run_report.specs.Shorthands.{passage_on, passages_named}
+use Rattle.run_report.specs.Legal.{IsAnswerTo, Answers, FollowOn}
 use Rattle.run_report.specs.Machine.{ActorNow, actor_part_of}
-use Rattle.run_report.proofs.Lists.{slice_get-set_same, slice_get-set_other, slice_get-append_left, enumerate_from-push, flat_map_push, numbered_same, numbered_lone}
-use Rattle.run_report.proofs.Kept.{parts_of, journal_with, IsOwnRecord, IsActorOf}
-use Rattle.std.proofs.lemmas.Bool.{cases_eq}
+use Rattle.run_report.proofs.Lists.{enumerate_from-push, flat_map_push, numbered_same, numbered_lone}
+use Rattle.run_report.proofs.Kept.{parts_of, IsActorOf}
 
 -- passages that follow on, and one more that does
 pub follow_on_push : (base : ℕ) (passages : List Passage) (step : Passage) → FollowOn base passages → step.base ≡ fold (λ number step. step.to) base passages → step.base < step.to
@@ -40,6 +37,19 @@ passages_by-push id actor parts part =
     let k : 0 + length parts ≡ length parts = omega arith in
     ap (flat_map f) (enumerate_from-push 0 parts part) ∙ flat_map_push f (enumerate_from 0 parts) (0 + length parts, part)
     ∙ ap (λ n. passages_by id actor parts ++ passage_on id (record { actor = actor; call = n }) part) k
+
+-- no passages where a surface has no more
+pub nothing_more : (b : Bool) (passages : List Passage) → passages ≡ [] → cond b passages [] ≡ []
+nothing_more true passages e = e
+nothing_more false passages e = refl
+
+-- an answer that names no passage leaves an actor's passages of its surface
+pub passages_by-quiet : (id actor : ℕ) (parts : List StepPart) (answer : Answer) → passage_of (record { actor = actor; call = length parts }) answer ≡ []
+    → passages_by id actor (parts ++ (record { surface = id; answer = answer }) ∷ []) ≡ passages_by id actor parts
+passages_by-quiet id actor parts answer quiet =
+    passages_by-push id actor parts (record { surface = id; answer = answer })
+    ∙ ap (λ l. passages_by id actor parts ++ l) (nothing_more (nat_eq id id) (passage_of (record { actor = actor; call = length parts }) answer) quiet)
+    ∙ append-nil (passages_by id actor parts)
 
 -- an answer to what is no mount names no passage
 pub no_passage : (name : StepName) (act : PlainAct) (answer : Answer) → IsAnswerTo act answer → is_mount act ≡ false → passage_of name answer ≡ []
@@ -77,8 +87,8 @@ no_passages id actor n (d ∷ done) left (p ∷ parts) h none =
 pub no_passages_by : (id number : ℕ) (script_actor : PlainActor) (actor : ActorNow) → IsActorOf script_actor actor → mounts_on id script_actor ≡ false
     → passages_by id number actor.answers ≡ []
 no_passages_by id number script_actor actor of none =
-    no_passages id number 0 of.done actor.left actor.answers of.answers
-    (subst (λ l. list_any (λ step. is_mount step.act && nat_eq step.surface id) l ≡ false) of.steps none)
+    no_passages id number 0 of.through.done actor.left actor.answers of.through.answers
+    (subst (λ l. list_any (λ step. is_mount step.act && nat_eq step.surface id) l ≡ false) of.through.whole none)
 
 -- the parts of the actors, one of which is set
 pub parts_set : (actors : List ActorNow) (i : ℕ) (actor : ActorNow) → parts_of (slice_set actors i actor) ≡ slice_set (parts_of actors) i (actor_part_of actor)
@@ -110,42 +120,3 @@ passages_lone id actors i actor at others =
 
     none_at : (j k : ℕ) (part : PlainActorPart) → (j ≡ i → ⊥) → k ≡ j → option_map actor_part_of (slice_get actors j) ≡ Some part → passages_by id k part.steps ≡ []
     none_at j k part d e at = ap (λ n. passages_by id n part.steps) e ∙ none_for j part d (slice_get actors j) refl at
-
--- what a step was answered stays when more is answered, and so does what was answered before it
-pub named_stays : (actors : List ActorNow) (i : ℕ) (was is : ActorNow) (extra : List StepPart) (name : StepName) (part : StepPart)
-    → slice_get actors i ≡ Some was → is.answers ≡ was.answers ++ extra
-    → answer_named (journal_with (parts_of actors)) name ≡ Some part
-    → (answer_named (journal_with (parts_of (slice_set actors i is))) name ≡ Some part)
-    × (answers_before (journal_with (parts_of (slice_set actors i is))) name ≡ answers_before (journal_with (parts_of actors)) name)
-named_stays actors i was is extra name part at grown h =
-    let new : List ActorNow = slice_set actors i is in
-    let answer = λ (o : Option PlainActorPart). option_and_then (λ p. slice_get p.steps name.call) o in
-    let before = λ (o : Option PlainActorPart). unwrap_or (option_map (λ p. take name.call p.steps) o) [] in
-    elim (cases_eq name.actor i) [
-      | inl e ↦
-          let was_at : slice_get (parts_of actors) name.actor ≡ Some (actor_part_of was) = ap (slice_get (parts_of actors)) e ∙ part_at actors i was at in
-          let is_at : slice_get (parts_of new) name.actor ≡ Some (actor_part_of is) =
-          ap (slice_get (parts_of new)) e ∙ part_at new i is (slice_get-set_same actors i is was at) in
-          let old : slice_get was.answers name.call ≡ Some part = sym (ap answer was_at) ∙ h in
-          let below : name.call ≤ length was.answers = omega (arith, slice_get_within was.answers name.call part old) in (
-            ap answer is_at ∙ ap (λ l. slice_get l name.call) grown ∙ slice_get-append_left was.answers extra name.call part old,
-            ap before is_at ∙ ap (take name.call) grown ∙ take-append-le name.call was.answers extra below ∙ sym (ap before was_at),
-          )
-      | inr d ↦
-          let q : slice_get (parts_of new) name.actor ≡ slice_get (parts_of actors) name.actor =
-          slice_get-map actor_part_of new name.actor ∙ ap (option_map actor_part_of) (slice_get-set_other actors i name.actor is d)
-          ∙ sym (slice_get-map actor_part_of actors name.actor) in
-          (ap answer q ∙ h, ap before q)
-    ]
-
--- the record of a step stays its own when more is answered
-pub own_record_stays : (script : PlainScript) (id number : ℕ) (entry : PlainRecord) (actors : List ActorNow) (i : ℕ) (was is : ActorNow) (extra : List StepPart)
-    → slice_get actors i ≡ Some was → is.answers ≡ was.answers ++ extra
-    → IsOwnRecord script (parts_of actors) id number entry → IsOwnRecord script (parts_of (slice_set actors i is)) id number entry
-own_record_stays script id number entry actors i was is extra at grown h =
-    let part : StepPart = record { surface = id; answer = Admitted number h.own_step.tries } in
-    let stays = named_stays actors i was is extra (name_of entry) part at grown h.own_step.answer in
-    record {
-      own_step = record { step = h.own_step.step; tries = h.own_step.tries; answer = stays.0 };
-      held = h.held ∙ ap (number_held id) (sym stays.1);
-    }

@@ -9,6 +9,7 @@ use Rattle.tree_revision.specs.Script.{PlainAct, commit, hold, mount, PlainStep,
 use Rattle.tree_revision.specs.Sound.{is_name}
 use Rattle.run_report.specs.Journal.{PlainActorPart, PlainSurfacePart, PlainJournal}
 use Rattle.run_report.specs.Legal.{name_of, IsOfItsStep, CommitsStandOnce}
+use Rattle.run_report.specs.Wishes.{as_written}
 use Rattle.run_report.specs.Shorthands.{step_named}
 use Rattle.run_report.specs.Text.{name_at, spaced, number_line, op_word_of, record_text, numbered}
 use Rattle.run_report.specs.TextParts.{records_text, histories_text}
@@ -61,6 +62,17 @@ record IsReadableRecord (script : PlainScript) (journal : PlainJournal) (id : �
   actor : entry.actor < length journal.actors
   range : IsRecordInRange entry
 
+-- a commit is of its step
+abbrev IsOf : PlainScript → (id : ℕ) → PlainRecord → Type 0
+IsOf script id entry = step_named script (name_of entry) ≡ Some (record { surface = id; act = commit entry.op })
+
+-- commits that stand once are each of its step
+each_of : (script : PlainScript) (journal : PlainJournal) (id : ℕ) (whole : List PlainRecord) (n : ℕ) (xs : List PlainRecord)
+    → AllByRecursion (λ entry. IsOfItsStep as_written script journal id whole entry.0 entry.1) (enumerate_from n xs) → AllByRecursion (IsOf script id) xs
+each_of script journal id whole n [] p = tt
+each_of script journal id whole n (x ∷ xs) p =
+    (p.0.step ∙ (λ i. Some (record { surface = id; act = commit (sym p.0.op i) })), each_of script journal id whole (n + 1) xs p.1)
+
 -- what follows a surface's commits is no commit
 history_first : (actors : List PlainActorPart) (parts : List PlainSurfacePart) (s : List ℕ) → nat_eq (first s) 99 ≡ false → nat_eq (first (histories_text actors parts ++ s)) 99 ≡ false
 history_first actors [] s p = p
@@ -107,7 +119,7 @@ module _ (script : PlainScript) (names : List (List ℕ)) (formed : AllByRecursi
 
   -- the commits of a surface are read back
   records_off : (id n : ℕ) (xs ys : List PlainRecord) (s t : List ℕ)
-      → AllByRecursion (λ entry. IsOfItsStep script a id entry.0 entry.1) (enumerate_from n xs) → AllByRecursion (λ entry. IsOfItsStep script b id entry.0 entry.1) (enumerate_from n ys)
+      → AllByRecursion (IsOf script id) xs → AllByRecursion (IsOf script id) ys
       → AllByRecursion (λ entry. entry.actor < length a.actors) xs → AllByRecursion (λ entry. entry.actor < length b.actors) ys
       → AllByRecursion IsRecordInRange xs → AllByRecursion IsRecordInRange ys → nat_eq (first s) 99 ≡ false → nat_eq (first t) 99 ≡ false
       → numbered (record_text a.actors) n xs ++ s ≡ numbered (record_text b.actors) n ys ++ t → (xs ≡ ys) × (s ≡ t)
@@ -117,7 +129,7 @@ module _ (script : PlainScript) (names : List (List ℕ)) (formed : AllByRecursi
   records_off id n (x ∷ xs) (y ∷ ys) s t px py ax ay fx fy bs bt e =
       let more_x : List ℕ = numbered (record_text a.actors) (n + 1) xs in
       let more_y : List ℕ = numbered (record_text b.actors) (n + 1) ys in
-      let one = record_off id n x y (more_x ++ s) (more_y ++ t) (record { step = px.0.step; actor = ax.0; range = fx.0 }) (record { step = py.0.step; actor = ay.0; range = fy.0 })
+      let one = record_off id n x y (more_x ++ s) (more_y ++ t) (record { step = px.0; actor = ax.0; range = fx.0 }) (record { step = py.0; actor = ay.0; range = fy.0 })
       (sym (append_assoc (record_text a.actors n x) more_x s) ∙ e ∙ append_assoc (record_text b.actors n y) more_y t) in
       let rest = records_off id (n + 1) xs ys s t px.1 py.1 ax.1 ay.1 fx.1 fy.1 bs bt one.1 in
       let x_is : x ≡ y = one.0 in
@@ -125,7 +137,7 @@ module _ (script : PlainScript) (names : List (List ℕ)) (formed : AllByRecursi
 
   -- the histories of surfaces of the same ids are read back
   pub histories_off : (xs ys : List PlainSurfacePart) (s t : List ℕ) → map (λ part. part.id) xs ≡ map (λ part. part.id) ys
-      → AllByRecursion (λ part. CommitsStandOnce script a part.id part.records) xs → AllByRecursion (λ part. CommitsStandOnce script b part.id part.records) ys
+      → AllByRecursion (λ part. CommitsStandOnce as_written script a part.id part.records) xs → AllByRecursion (λ part. CommitsStandOnce as_written script b part.id part.records) ys
       → AllByRecursion (NamesActors (length a.actors)) xs → AllByRecursion (NamesActors (length b.actors)) ys → AllByRecursion IsPartInRange xs → AllByRecursion IsPartInRange ys
       → nat_eq (first s) 99 ≡ false → nat_eq (first t) 99 ≡ false → histories_text a.actors xs ++ s ≡ histories_text b.actors ys ++ t
       → (map (λ part. part.records) xs ≡ map (λ part. part.records) ys) × (s ≡ t)
@@ -137,8 +149,8 @@ module _ (script : PlainScript) (names : List (List ℕ)) (formed : AllByRecursi
       let others : map (λ (part : PlainSurfacePart). part.id) xs ≡ map (λ (part : PlainSurfacePart). part.id) ys = cc in
       let more_x : List ℕ = histories_text a.actors xs in
       let more_y : List ℕ = histories_text b.actors ys in
-      let records = records_off x.id 1 x.records y.records (more_x ++ s) (more_y ++ t) px.0.records
-      (subst (λ n. AllByRecursion (λ entry. IsOfItsStep script b n entry.0 entry.1) (enumerate_from 1 y.records)) (sym id) py.0.records)
+      let records = records_off x.id 1 x.records y.records (more_x ++ s) (more_y ++ t) (each_of script a x.id x.records 1 x.records px.0.records)
+      (subst (λ n. AllByRecursion (IsOf script n) y.records) (sym id) (each_of script b y.id y.records 1 y.records py.0.records))
       (recursion_from_All (λ entry. entry.actor < length a.actors) x.records ax.0.records) (recursion_from_All (λ entry. entry.actor < length b.actors) y.records ay.0.records)
       fx.0.records fy.0.records (history_first a.actors xs s bs) (history_first b.actors ys t bt)
       (after_head (number_line (codes "surface")) x.id y.id (records_text a.actors x.records) (records_text b.actors y.records) more_x more_y s t id e) in

@@ -8,11 +8,12 @@ use Rattle.std.proofs.lemmas.List.Elements.{recursion_from_All}
 use Rattle.tree_revision.specs.Script.{PlainStep, PlainActor, PlainSurface, PlainScript}
 use Rattle.tree_revision.specs.InRange.{IsStepInRange}
 use Rattle.tree_revision.specs.Sound.{ids_of, mounts_on, HasOneMounter, IsSoundScript}
-use Rattle.run_report.specs.Machine.{SurfaceNow, ActorNow, RunNow, Moment, after_event, with_moment, after_turn}
-use Rattle.run_report.specs.Shorthands.{after_event_on, after_event_by, after_event_of, after_turns}
+use Rattle.run_report.specs.Machine.{SurfaceNow, ActorNow, RunNow, Moment, after_hooked_event, after_hooked_event_on, after_hooked_event_by, after_hooked_event_of, with_moment, after_hooked_turn}
+use Rattle.run_report.specs.Shorthands.{after_hooked_turns}
+use Rattle.run_report.specs.Wishes.{Wish, as_written, KeepsRange}
 use Rattle.run_report.proofs.Lists.{item_within, all_at, all_unmap, slice_get_at, all_weaker, all_map, all_found}
 use Rattle.run_report.proofs.Pairs.{each_set, all_zip_become}
-use Rattle.run_report.proofs.Kept.{IsSurfaceKept, IsActorOf, IsSurfaceOf, IsRunOf}
+use Rattle.run_report.proofs.Kept.{IsHookedSurface, IsActorOf, IsSurfaceOf, IsHookedRun, IsRunOf}
 use Rattle.run_report.proofs.Surfaces.{IsAtStep, own_actor, own_steps}
 use Rattle.run_report.proofs.Turns.{IsEventKept, event_by}
 
@@ -59,15 +60,15 @@ module _ (script : PlainScript) (sound : IsSoundScript script) where
       (subst (AllByRecursion (HasOneMounter script.actors)) (sym (same_ids script.surfaces xs h))
       (recursion_from_All (HasOneMounter script.actors) (ids_of script.surfaces) sound.mounters))
 
-  module _ (run : RunNow) (h : IsRunOf script run) (number : ℕ) (script_actor : PlainActor) (actor : ActorNow) (step : PlainStep) (rest : List PlainStep)
+  module _ {wish : Wish} (run : RunNow) (h : IsHookedRun wish script run) (number : ℕ) (script_actor : PlainActor) (actor : ActorNow) (step : PlainStep) (rest : List PlainStep)
       (t : IsAtStep script run.actors number script_actor actor step rest) where
     -- the step is in range
     pub own_in_range : IsStepInRange (ids_of script.surfaces) step
     own_in_range =
         let own = own_actor script run.actors number script_actor actor step rest t in
-        let at : slice_get script_actor.steps (length own.done) ≡ Some step =
-        ap (λ l. slice_get l (length own.done)) (own_steps script run.actors number script_actor actor step rest t) ∙ slice_get_at own.done step rest in
-        all_at (IsStepInRange (ids_of script.surfaces)) script_actor.steps (length own.done) step
+        let at : slice_get script_actor.steps (length own.through.done) ≡ Some step =
+        ap (λ l. slice_get l (length own.through.done)) (own_steps script run.actors number script_actor actor step rest t) ∙ slice_get_at own.through.done step rest in
+        all_at (IsStepInRange (ids_of script.surfaces)) script_actor.steps (length own.through.done) step
         (all_at (λ a. All (IsStepInRange (ids_of script.surfaces)) a.steps) script.actors number script_actor sound.steps t.script_at) at
 
     -- its surface is there
@@ -79,17 +80,17 @@ module _ (script : PlainScript) (sound : IsSoundScript script) where
     module _ (now : SurfaceNow) (found : find (λ s. nat_eq s.id step.surface) run.surfaces ≡ Some now) where
       -- the step is on that surface
       pub is_on : step.surface ≡ now.id
-      is_on = sym (eqb-true now.id step.surface (all_found (λ s. nat_eq s.id step.surface) (IsSurfaceKept script run.actors) run.surfaces now h.kept found).1)
+      is_on = sym (eqb-true now.id step.surface (all_found (λ s. nat_eq s.id step.surface) (IsHookedSurface wish script run.actors) run.surfaces now h.kept found).1)
 
       -- the event there keeps what it is to keep
-      pub event_kept : IsEventKept script run.actors number script_actor step now (after_event number step.act now actor)
-      event_kept =
+      pub event_kept : KeepsRange wish → IsEventKept wish script run.actors number script_actor step now (after_hooked_event wish number step.act now actor)
+      event_kept keeps =
           event_by script run.actors number script_actor actor step rest t now
-          (all_found (λ s. nat_eq s.id step.surface) (IsSurfaceKept script run.actors) run.surfaces now h.kept found).0 is_on step.act refl own_in_range.act
+          (all_found (λ s. nat_eq s.id step.surface) (IsHookedSurface wish script run.actors) run.surfaces now h.kept found).0 is_on keeps step.act refl own_in_range.act
           (all_found (λ s. nat_eq s.id step.surface) (λ s. count_by (mounts_on s.id) script.actors ≤ 1) run.surfaces now (one_mounter run.surfaces h.surfaces) found).0
 
       -- the run is kept with the surface and the actor after the event
-      pub moment_kept : (after : Moment) → IsEventKept script run.actors number script_actor step now after → IsRunOf script (with_moment run number after)
+      pub moment_kept : (after : Moment) → IsEventKept wish script run.actors number script_actor step now after → IsHookedRun wish script (with_moment run number after)
       moment_kept after k = record {
         surfaces =
             all_zip_become IsSurfaceOf (λ s. nat_eq s.id step.surface ≡ true → s ≡ now) IsSurfaceOf (λ s. cond (nat_eq s.id after.surface.id) after.surface s)
@@ -106,53 +107,60 @@ module _ (script : PlainScript) (sound : IsSoundScript script) where
         count = length-set run.actors number after.actor ∙ h.count;
         actors = each_set (λ n a b. IsActorOf a b) (λ n a b. IsActorOf a b) script.actors run.actors number actor after.actor t.at h.actors
             (λ j x y d s p. p) (λ x s p. subst (λ a. IsActorOf a after.actor) (same_Some script_actor x (sym t.script_at ∙ s)) k.actor);
-        kept = all_map (IsSurfaceKept script (slice_set run.actors number after.actor)) (λ s. cond (nat_eq s.id after.surface.id) after.surface s) run.surfaces
-            (all_weaker (IsSurfaceKept script run.actors) (λ s. IsSurfaceKept script (slice_set run.actors number after.actor) (cond (nat_eq s.id after.surface.id) after.surface s))
+        kept = all_map (IsHookedSurface wish script (slice_set run.actors number after.actor)) (λ s. cond (nat_eq s.id after.surface.id) after.surface s) run.surfaces
+            (all_weaker (IsHookedSurface wish script run.actors) (λ s. IsHookedSurface wish script (slice_set run.actors number after.actor) (cond (nat_eq s.id after.surface.id) after.surface s))
             (λ s was.
             elim (cases_Bool (nat_eq s.id after.surface.id)) [
-              | inl e ↦ subst (λ b. IsSurfaceKept script (slice_set run.actors number after.actor) (cond b after.surface s)) (sym e) k.here
+              | inl e ↦ subst (λ b. IsHookedSurface wish script (slice_set run.actors number after.actor) (cond b after.surface s)) (sym e) k.here
               | inr e ↦
-                  subst (λ b. IsSurfaceKept script (slice_set run.actors number after.actor) (cond b after.surface s)) (sym e)
+                  subst (λ b. IsHookedSurface wish script (slice_set run.actors number after.actor) (cond b after.surface s)) (sym e)
                   (k.elsewhere s was (ne_eqb step.surface s.id (λ q. eqb-false s.id after.surface.id e (sym q ∙ is_on ∙ sym k.id))))
             ])
             run.surfaces h.kept);
       }
 
   -- an actor of a run that has a step left is at it
-  pub at_step : (run : RunNow) → IsRunOf script run → (number : ℕ) (actor : ActorNow) (step : PlainStep) (rest : List PlainStep)
+  pub at_step : {wish : Wish} (run : RunNow) → IsHookedRun wish script run → (number : ℕ) (actor : ActorNow) (step : PlainStep) (rest : List PlainStep)
       → slice_get run.actors number ≡ Some actor → actor.left ≡ step ∷ rest
       → (script_actor : PlainActor) × IsAtStep script run.actors number script_actor actor step rest
   at_step run h number actor step rest at left =
       let own = item_within script.actors number (omega (arith, slice_get_within run.actors number actor at, h.count)) in
       (own.0, record { script_at = own.1; at = at; count = h.count; shape = h.actors; left = left })
 
-  -- an event on what was found keeps the run
-  pub after_event_on-kept : (run : RunNow) → IsRunOf script run → (number : ℕ) (actor : ActorNow) (step : PlainStep) (rest : List PlainStep)
-      → slice_get run.actors number ≡ Some actor → actor.left ≡ step ∷ rest
-      → (found : Option SurfaceNow) → find (λ s. nat_eq s.id step.surface) run.surfaces ≡ found → IsRunOf script (after_event_on run number actor step.act found)
-  after_event_on-kept run h number actor step rest at left None e = h
-  after_event_on-kept run h number actor step rest at left (Some now) e =
-      let own = at_step run h number actor step rest at left in
-      moment_kept run h number own.0 actor step rest own.1 now e (after_event number step.act now actor)
-      (event_kept run h number own.0 actor step rest own.1 now e)
+  module _ (wish : Wish) (keeps : KeepsRange wish) where
+    -- an event on what was found keeps the run
+    pub event_on_kept : (run : RunNow) → IsHookedRun wish script run → (number : ℕ) (actor : ActorNow) (step : PlainStep) (rest : List PlainStep)
+        → slice_get run.actors number ≡ Some actor → actor.left ≡ step ∷ rest
+        → (found : Option SurfaceNow) → find (λ s. nat_eq s.id step.surface) run.surfaces ≡ found
+        → IsHookedRun wish script (after_hooked_event_on wish run number actor step.act found)
+    event_on_kept run h number actor step rest at left None e = h
+    event_on_kept run h number actor step rest at left (Some now) e =
+        let own = at_step run h number actor step rest at left in
+        moment_kept run h number own.0 actor step rest own.1 now e (after_hooked_event wish number step.act now actor)
+        (event_kept run h number own.0 actor step rest own.1 now e keeps)
 
-  -- so by an actor with these steps left
-  pub after_event_by-kept : (run : RunNow) → IsRunOf script run → (number : ℕ) (actor : ActorNow) (left : List PlainStep)
-      → slice_get run.actors number ≡ Some actor → actor.left ≡ left → IsRunOf script (after_event_by run number actor left)
-  after_event_by-kept run h number actor [] at e = h
-  after_event_by-kept run h number actor (step ∷ rest) at e =
-      after_event_on-kept run h number actor step rest at e (find (λ s. nat_eq s.id step.surface) run.surfaces) refl
+    -- so by an actor with these steps left
+    pub event_by_kept : (run : RunNow) → IsHookedRun wish script run → (number : ℕ) (actor : ActorNow) (left : List PlainStep)
+        → slice_get run.actors number ≡ Some actor → actor.left ≡ left → IsHookedRun wish script (after_hooked_event_by wish run number actor left)
+    event_by_kept run h number actor [] at e = h
+    event_by_kept run h number actor (step ∷ rest) at e =
+        event_on_kept run h number actor step rest at e (find (λ s. nat_eq s.id step.surface) run.surfaces) refl
 
-  -- and by whatever stands at the number
-  pub after_event_of-kept : (run : RunNow) → IsRunOf script run → (number : ℕ) (actor : Option ActorNow) → slice_get run.actors number ≡ actor → IsRunOf script (after_event_of run number actor)
-  after_event_of-kept run h number None e = h
-  after_event_of-kept run h number (Some actor) e = after_event_by-kept run h number actor actor.left e refl
+    -- and by whatever stands at the number
+    pub event_of_kept : (run : RunNow) → IsHookedRun wish script run → (number : ℕ) (actor : Option ActorNow) → slice_get run.actors number ≡ actor
+        → IsHookedRun wish script (after_hooked_event_of wish run number actor)
+    event_of_kept run h number None e = h
+    event_of_kept run h number (Some actor) e = event_by_kept run h number actor actor.left e refl
 
-  -- a turn keeps what a run keeps
-  pub turn_kept : (run : RunNow) → IsRunOf script run → (number : ℕ) → IsRunOf script (after_turn run number)
-  turn_kept run h number = after_event_of-kept run h number (slice_get run.actors number) refl
+    -- a turn keeps what a run keeps
+    pub hooked_turn_kept : (run : RunNow) → IsHookedRun wish script run → (number : ℕ) → IsHookedRun wish script (after_hooked_turn wish run number)
+    hooked_turn_kept run h number = event_of_kept run h number (slice_get run.actors number) refl
 
-  -- so do more turns
-  pub turns_kept : (run : RunNow) → IsRunOf script run → (turns : List ℕ) → IsRunOf script (after_turns run turns)
-  turns_kept run h [] = h
-  turns_kept run h (number ∷ turns) = turns_kept (after_turn run number) (turn_kept run h number) turns
+    -- so do more turns
+    pub hooked_turns_kept : (run : RunNow) → IsHookedRun wish script run → (turns : List ℕ) → IsHookedRun wish script (after_hooked_turns wish run turns)
+    hooked_turns_kept run h [] = h
+    hooked_turns_kept run h (number ∷ turns) = hooked_turns_kept (after_hooked_turn wish run number) (hooked_turn_kept run h number) turns
+
+  -- turns in which each commit asks for the change that its step has
+  pub turns_kept : (run : RunNow) → IsRunOf script run → (turns : List ℕ) → IsRunOf script (after_hooked_turns as_written run turns)
+  turns_kept = hooked_turns_kept as_written (λ entries held op fits. fits)

@@ -4,7 +4,7 @@ use Rattle.std.specs.List.{AllByRecursion, AllZip, fold, enumerate_from, range_w
 use Rattle.shadow_frame.specs.declared.Size.{Size}
 use Rattle.host_views.specs.Registry.{PlainRegistry, MayApply, mutated, registry_of}
 use Rattle.view_mutation.specs.Mutations.{mutations_between}
-use Rattle.tree_revision.specs.Records.{PlainRecord}
+use Rattle.tree_revision.specs.Records.{PlainOp, PlainRecord}
 use Rattle.tree_revision.specs.Script.{PlainAct, commit, hold, mount, PlainStep, PlainActor, PlainScript}
 use Rattle.tree_revision.specs.Sound.{ids_of, names_of}
 use Rattle.tree_revision.specs.Cancels.{cancel_of}
@@ -19,6 +19,7 @@ use Rattle.run_report.specs.Journal.{PlainMount, PlainSurfacePart, PlainActorPar
 use Rattle.run_report.specs.Points.{look_point, point_before, number_held, mounted_after}
 use Rattle.mount_coordinator.specs.Mounted.{host_tree_at}
 use Rattle.run_report.specs.Mounts.{Passage, passage_in, passages_on}
+use Rattle.run_report.specs.Wishes.{Wish, as_written}
 
 -- a hold is answered held, a mount is answered mounted or empty, and a commit is answered admitted or cancelled
 abbrev pub IsAnswerTo : PlainAct → Answer → Type 0
@@ -69,32 +70,10 @@ record_at entries (suc number) = slice_get entries number
 abbrev pub name_of : PlainRecord → StepName
 name_of entry = record { actor = entry.actor; call = entry.call }
 
--- record n names a commit on this surface and has its change, and that step was answered admitted n
-pub record IsOfItsStep (script : PlainScript) (journal : PlainJournal) (id number : ℕ) (entry : PlainRecord) : Type 0 where
-  pub step : option_and_then (λ actor. slice_get actor.steps entry.call) (slice_get script.actors entry.actor) ≡ Some (record { surface = id; act = commit entry.op })
-  pub tries : ℕ
-  pub answer :
-      option_and_then (λ actor. slice_get actor.steps entry.call) (slice_get journal.actors entry.actor) ≡ Some (record { surface = id; answer = Admitted number tries })
-
 -- where a step was admitted, the record of that number is its own
 abbrev pub HasItsRecord : List PlainRecord → TakenStep → Answer → Type 0
 HasItsRecord entries taken (Admitted number tries) = option_map name_of (record_at entries number) ≡ Some taken.name
 HasItsRecord entries taken _ = Unit {0}
-
--- each admitted commit stands once: each record is of the step that was admitted at its number, and each admitted step has its record
-pub record CommitsStandOnce (script : PlainScript) (journal : PlainJournal) (id : ℕ) (entries : List PlainRecord) : Type 0 where
-  pub records : AllByRecursion (λ entry. IsOfItsStep script journal id entry.0 entry.1) (enumerate_from 1 entries)
-  pub steps : AllByRecursion (λ taken. HasItsRecord entries taken taken.answer) (taken_on script journal id)
-
--- why a step that does that would be cancelled after the first records, by an actor that holds that revision; only a commit is cancelled
-abbrev pub cancel_for_act : Size → List PlainRecord → (held : ℕ) → PlainAct → (number : ℕ) → Option Cancel
-cancel_for_act first entries held (commit op) number = cancel_of first op (take number entries) held
-cancel_for_act first entries held _ number = None
-
--- a cancelled step has its cause where it looked
-abbrev pub HasCause : Size → (id : ℕ) → List PlainRecord → TakenStep → Answer → Type 0
-HasCause first id entries taken (Cancelled at tries cause) = cancel_for_act first entries (number_held id taken.earlier) taken.step.act at ≡ Some cause
-HasCause first id entries taken _ = Unit {0}
 
 -- a step looks at no less than its actor had seen before, and at no more than there is
 pub record LooksForward (id : ℕ) (entries : List PlainRecord) (taken : TakenStep) : Type 0 where
@@ -122,19 +101,6 @@ pub record MountsFollowOn (script : PlainScript) (journal : PlainJournal) (part 
   pub forward : FollowOn 0 (map passage_in part.mounts)
   pub empty : AllByRecursion (λ taken. IsEmptyAt part.id taken taken.answer) (taken_on script journal part.id)
 
--- how many numbers, from what was left before up to the look, have no cause for a step
-abbrev pub room_for_tries : Size → (id : ℕ) → List PlainRecord → TakenStep → ℕ
-room_for_tries first id entries taken =
-    let before = point_before id entries taken.earlier in
-    count_by (λ number. is_none (cancel_for_act first entries (number_held id taken.earlier) taken.step.act number))
-    (range_with_len before (look_point entries before taken.answer - before))
-
--- a commit was tried once at least, and each earlier try has a number of its own at which it had no cause
-abbrev pub HasRoomForTries : Size → (id : ℕ) → List PlainRecord → TakenStep → Answer → Type 0
-HasRoomForTries first id entries taken (Admitted number tries) = (1 ≤ tries) × (tries ≤ room_for_tries first id entries taken + 1)
-HasRoomForTries first id entries taken (Cancelled at tries cause) = (1 ≤ tries) × (tries ≤ room_for_tries first id entries taken + 1)
-HasRoomForTries first id entries taken _ = Unit {0}
-
 -- a mount on these host views: its mutations are those between the two host trees, each may be applied in its turn, and then the views are the tree that it leads to
 pub record IsMountOn (first : Size) (entries : List PlainRecord) (views : PlainRegistry) (done : PlainMount) : Type 0 where
   pub mutations : done.mutations ≡ mutations_between (host_tree_at first entries done.base) (host_tree_at first entries done.to)
@@ -151,18 +117,61 @@ pub record ViewsFollow (first : Size) (part : PlainSurfacePart) : Type 0 where
   pub mounts : AreMountsOn first part.records (registry_of []) part.mounts
   pub last : part.last ≡ host_tree_at first part.records (mountable_of part.records)
 
--- what is promised of a surface of that first size
-pub record IsLegalOn (script : PlainScript) (journal : PlainJournal) (first : Size) (part : PlainSurfacePart) : Type 0 where
-  pub commits_stand_once : CommitsStandOnce script journal part.id part.records
-  pub history_is_lawful : IsLawful first part.records
-  pub cancels_have_cause : AllByRecursion (λ taken. HasCause first part.id part.records taken taken.answer) (taken_on script journal part.id)
-  pub looks_go_forward : AllByRecursion (LooksForward part.id part.records) (taken_on script journal part.id)
-  pub held_is_true : AllByRecursion (IsTrulyHeld journal part.id) part.records
-  pub mounts_follow_on : MountsFollowOn script journal part
-  pub tries_have_room : AllByRecursion (λ taken. HasRoomForTries first part.id part.records taken taken.answer) (taken_on script journal part.id)
-  pub views_follow : ViewsFollow first part
+-- where each commit asks for what is wished of it
+module _ (wish : Wish) where
+  -- record n names a commit on this surface and has what was wished of its change at that look, and that step was answered admitted n
+  pub record IsOfItsStep (script : PlainScript) (journal : PlainJournal) (id : ℕ) (entries : List PlainRecord) (number : ℕ) (entry : PlainRecord) : Type 0 where
+    pub change : PlainOp
+    pub step : option_and_then (λ actor. slice_get actor.steps entry.call) (slice_get script.actors entry.actor) ≡ Some (record { surface = id; act = commit change })
+    pub op : entry.op ≡ wish (take (number - 1) entries) entry.held change
+    pub tries : ℕ
+    pub answer :
+        option_and_then (λ actor. slice_get actor.steps entry.call) (slice_get journal.actors entry.actor) ≡ Some (record { surface = id; answer = Admitted number tries })
 
--- a journal is legal for a script: it has the script's form, and each surface keeps what is promised
-pub record IsLegal (script : PlainScript) (journal : PlainJournal) : Type 0 where
-  pub form : HasFormOf script journal
-  pub surfaces : AllZip (λ surface part. IsLegalOn script journal surface.size part) script.surfaces journal.surfaces
+  -- each admitted commit stands once: each record is of the step that was admitted at its number, and each admitted step has its record
+  pub record CommitsStandOnce (script : PlainScript) (journal : PlainJournal) (id : ℕ) (entries : List PlainRecord) : Type 0 where
+    pub records : AllByRecursion (λ entry. IsOfItsStep script journal id entries entry.0 entry.1) (enumerate_from 1 entries)
+    pub steps : AllByRecursion (λ taken. HasItsRecord entries taken taken.answer) (taken_on script journal id)
+
+  -- why a step that does that would be cancelled after the first records, by an actor that holds that revision; only a commit is cancelled
+  abbrev pub cancel_for_act : Size → List PlainRecord → (held : ℕ) → PlainAct → (number : ℕ) → Option Cancel
+  cancel_for_act first entries held (commit op) number = cancel_of first (wish (take number entries) held op) (take number entries) held
+  cancel_for_act first entries held _ number = None
+
+  -- a cancelled step has its cause where it looked
+  abbrev pub HasCause : Size → (id : ℕ) → List PlainRecord → TakenStep → Answer → Type 0
+  HasCause first id entries taken (Cancelled at tries cause) = cancel_for_act first entries (number_held id taken.earlier) taken.step.act at ≡ Some cause
+  HasCause first id entries taken _ = Unit {0}
+
+  -- how many numbers, from what was left before up to the look, have no cause for a step
+  abbrev pub room_for_tries : Size → (id : ℕ) → List PlainRecord → TakenStep → ℕ
+  room_for_tries first id entries taken =
+      let before = point_before id entries taken.earlier in
+      count_by (λ number. is_none (cancel_for_act first entries (number_held id taken.earlier) taken.step.act number))
+      (range_with_len before (look_point entries before taken.answer - before))
+
+  -- a commit was tried once at least, and each earlier try has a number of its own at which it had no cause
+  abbrev pub HasRoomForTries : Size → (id : ℕ) → List PlainRecord → TakenStep → Answer → Type 0
+  HasRoomForTries first id entries taken (Admitted number tries) = (1 ≤ tries) × (tries ≤ room_for_tries first id entries taken + 1)
+  HasRoomForTries first id entries taken (Cancelled at tries cause) = (1 ≤ tries) × (tries ≤ room_for_tries first id entries taken + 1)
+  HasRoomForTries first id entries taken _ = Unit {0}
+
+  -- what is promised of a surface of that first size
+  pub record IsLegalOn (script : PlainScript) (journal : PlainJournal) (first : Size) (part : PlainSurfacePart) : Type 0 where
+    pub commits_stand_once : CommitsStandOnce script journal part.id part.records
+    pub history_is_lawful : IsLawful first part.records
+    pub cancels_have_cause : AllByRecursion (λ taken. HasCause first part.id part.records taken taken.answer) (taken_on script journal part.id)
+    pub looks_go_forward : AllByRecursion (LooksForward part.id part.records) (taken_on script journal part.id)
+    pub held_is_true : AllByRecursion (IsTrulyHeld journal part.id) part.records
+    pub mounts_follow_on : MountsFollowOn script journal part
+    pub tries_have_room : AllByRecursion (λ taken. HasRoomForTries first part.id part.records taken taken.answer) (taken_on script journal part.id)
+    pub views_follow : ViewsFollow first part
+
+  -- a journal is legal for a script: it has the script's form, and each surface keeps what is promised
+  pub record IsHookLegal (script : PlainScript) (journal : PlainJournal) : Type 0 where
+    pub form : HasFormOf script journal
+    pub surfaces : AllZip (λ surface part. IsLegalOn script journal surface.size part) script.surfaces journal.surfaces
+
+-- a journal is legal for a script in which each commit asks for the change that its step has
+abbrev pub IsLegal : PlainScript → PlainJournal → Type 0
+IsLegal = IsHookLegal as_written

@@ -1,8 +1,10 @@
 pub mod Journal
 pub mod Points
 pub mod Mounts
+pub mod Wishes
 pub mod Legal
 pub mod Machine
+pub mod ActorLegal
 pub mod Pieces
 pub mod Named
 pub mod Text

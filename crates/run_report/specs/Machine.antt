@@ -1,5 +1,5 @@
 -- The machine of turns: a run in which each turn is one event of one actor.
-use Rattle.std.specs.Prelude.{ℕ, ◌+◌, ◌*◌, List, [], ◌∷◌, ◌++◌, length, map, drop, replicate, nat_eq, if◌then◌else◌, slice_get, slice_set, Option, Some, None, unwrap_or, option_and_then, option_map}
+use Rattle.std.specs.Prelude.{ℕ, ◌+◌, ◌*◌, List, [], ◌∷◌, ◌++◌, length, map, drop, replicate, nat_eq, if◌then◌else◌, slice_get, slice_set, Option, Some, None}
 use Rattle.std.specs.List.{find, fold, flat_map, enumerate_from}
 use Rattle.shadow_frame.specs.declared.Size.{Size}
 use Rattle.tree_revision.specs.Records.{PlainOp, PlainRecord}
@@ -12,6 +12,7 @@ use Rattle.tree_revision.specs.declared.record.Answer.TheVariants.{Held, Admitte
 use Rattle.run_report.specs.declared.journal.StepPart.{StepPart}
 use Rattle.run_report.specs.Journal.{PlainSurfacePart, PlainActorPart, PlainJournal}
 use Rattle.run_report.specs.Points.{number_held}
+use Rattle.run_report.specs.Wishes.{Wish, as_written}
 use Rattle.mount_coordinator.specs.Mounted.{host_tree_at}
 use Rattle.run_report.specs.Mounts.{passages_on, mount_along}
 
@@ -67,22 +68,10 @@ abbrev pub after_commit : (number : ℕ) → PlainOp → Option ℕ → SurfaceN
 after_commit number op None surface actor = after_look op surface actor
 after_commit number op (Some at) surface actor = after_offer number op at surface actor
 
--- an event of the actor of that number, whose step does that; a hold holds the newest revision
-abbrev pub after_event : (number : ℕ) → PlainAct → SurfaceNow → ActorNow → Moment
-after_event number (commit op) surface actor = after_commit number op actor.looked surface actor
-after_event number hold surface actor = moment surface (answered surface.id (Held (length surface.records)) actor)
-after_event number mount surface actor = after_mount surface actor
-
 -- a run with that surface and that actor in their places
 abbrev pub with_moment : RunNow → (number : ℕ) → Moment → RunNow
 with_moment run number now =
     record { surfaces = map (λ surface. if nat_eq surface.id now.surface.id then now.surface else surface) run.surfaces; actors = slice_set run.actors number now.actor }
-
--- a run after one turn: one event of the actor of that number, on the surface of the first step that it has left; where none is left, nothing
-abbrev pub after_turn : RunNow → (number : ℕ) → RunNow
-after_turn run number =
-    unwrap_or (option_and_then (λ actor. option_and_then (λ step. option_map (λ surface. with_moment run number (after_event number step.act surface actor))
-    (find (λ surface. nat_eq surface.id step.surface) run.surfaces)) (slice_get actor.left 0)) (slice_get run.actors number)) run
 
 -- a run before the first turn: no surface has a commit, and no actor an answer
 abbrev pub run_of : PlainScript → RunNow
@@ -109,6 +98,47 @@ surface_part_of actors surface =
 abbrev pub journal_at_end : RunNow → PlainJournal
 journal_at_end run = record { surfaces = map (surface_part_of (map actor_part_of run.actors)) run.surfaces; actors = map actor_part_of run.actors }
 
--- the journal of a script: its turns, and then each actor to its end
+-- a run in which each commit asks for what is wished of it
+module _ (wish : Wish) where
+  -- an event of the actor of that number, whose step does that: a commit asks for what is wished, and a hold holds the newest revision
+  abbrev pub after_hooked_event : (number : ℕ) → PlainAct → SurfaceNow → ActorNow → Moment
+  after_hooked_event number (commit op) surface actor =
+      after_commit number (wish surface.records (number_held surface.id actor.answers) op) actor.looked surface actor
+  after_hooked_event number hold surface actor = moment surface (answered surface.id (Held (length surface.records)) actor)
+  after_hooked_event number mount surface actor = after_mount surface actor
+
+  -- a run after an event of that actor, whose step does that, on the surface that was found
+  abbrev pub after_hooked_event_on : RunNow → (number : ℕ) → ActorNow → PlainAct → Option SurfaceNow → RunNow
+  after_hooked_event_on run number actor act None = run
+  after_hooked_event_on run number actor act (Some surface) = with_moment run number (after_hooked_event number act surface actor)
+
+  -- a run after an event of that actor, which has these steps left: it is one of the first of them, on its surface
+  abbrev pub after_hooked_event_by : RunNow → (number : ℕ) → ActorNow → (left : List PlainStep) → RunNow
+  after_hooked_event_by run number actor [] = run
+  after_hooked_event_by run number actor (step ∷ left) =
+      after_hooked_event_on run number actor step.act (find (λ surface. nat_eq surface.id step.surface) run.surfaces)
+
+  -- a run after an event of the actor that was found
+  abbrev pub after_hooked_event_of : RunNow → (number : ℕ) → Option ActorNow → RunNow
+  after_hooked_event_of run number None = run
+  after_hooked_event_of run number (Some actor) = after_hooked_event_by run number actor actor.left
+
+  -- a run after one turn: one event of the actor of that number; where it has no step left, nothing
+  abbrev pub after_hooked_turn : RunNow → (number : ℕ) → RunNow
+  after_hooked_turn run number = after_hooked_event_of run number (slice_get run.actors number)
+
+  -- the journal of a script: its turns, and then each actor to its end
+  abbrev pub journal_of_hooked_turns : PlainScript → PlainJournal
+  journal_of_hooked_turns script = journal_at_end (fold after_hooked_turn (run_of script) (script.turns ++ ending_turns script.actors))
+
+-- an event of a commit that asks for the change that its step has
+abbrev pub after_event : (number : ℕ) → PlainAct → SurfaceNow → ActorNow → Moment
+after_event = after_hooked_event as_written
+
+-- a turn in which each commit asks for the change that its step has
+abbrev pub after_turn : RunNow → (number : ℕ) → RunNow
+after_turn = after_hooked_turn as_written
+
+-- the journal of a script in which each commit asks for the change that its step has
 abbrev pub journal_of_turns : PlainScript → PlainJournal
-journal_of_turns script = journal_at_end (fold after_turn (run_of script) (script.turns ++ ending_turns script.actors))
+journal_of_turns = journal_of_hooked_turns as_written

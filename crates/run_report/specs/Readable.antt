@@ -6,6 +6,7 @@ use Rattle.tree_revision.specs.Sound.{is_name, names_of}
 use Rattle.run_report.specs.Journal.{PlainJournal}
 use Rattle.run_report.specs.Named.{NamesItsActors}
 use Rattle.run_report.specs.Legal.{HasFormOf, CommitsStandOnce}
+use Rattle.run_report.specs.Wishes.{as_written}
 use Rattle.run_report.specs.Ranges.{IsInRange}
 
 -- each actor of a script has a name of its own
@@ -16,6 +17,6 @@ pub record HasNames (script : PlainScript) : Type 0 where
 -- a journal of a script whose report tells it: it has the script's form, each admitted commit stands once, each actor that it names is its own, and its numbers and the props of its views are in range
 pub record IsReadable (script : PlainScript) (journal : PlainJournal) : Type 0 where
   pub form : HasFormOf script journal
-  pub commits : AllByRecursion (λ part. CommitsStandOnce script journal part.id part.records) journal.surfaces
+  pub commits : AllByRecursion (λ part. CommitsStandOnce as_written script journal part.id part.records) journal.surfaces
   pub names : NamesItsActors journal
   pub ranges : IsInRange journal

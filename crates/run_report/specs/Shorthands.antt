@@ -1,6 +1,6 @@
 -- Names for parts of the definitions of a run, by which contracts inside and proofs speak of them.
 use Rattle.std.specs.Prelude.{ℕ, List, [], ◌∷◌, ◌++◌, drop, take, nat_eq, if◌then◌else◌, slice_get, Option, None, unwrap_or, option_and_then, option_map}
-use Rattle.std.specs.List.{find, fold, flat_map, enumerate_from}
+use Rattle.std.specs.List.{fold, flat_map, enumerate_from}
 use Rattle.tree_revision.specs.Records.{PlainRecord}
 use Rattle.tree_revision.specs.Script.{PlainAct, PlainStep, PlainActor, PlainSurface, PlainScript}
 use Rattle.run_report.specs.declared.journal.StepName.{StepName}
@@ -8,7 +8,8 @@ use Rattle.run_report.specs.declared.journal.StepPart.{StepPart}
 use Rattle.run_report.specs.Journal.{PlainActorPart, PlainJournal}
 use Rattle.run_report.specs.Points.{mounted_after}
 use Rattle.run_report.specs.Mounts.{Passage, passage_of, passages_by}
-use Rattle.run_report.specs.Machine.{SurfaceNow, ActorNow, RunNow, after_event, with_moment, after_turn}
+use Rattle.run_report.specs.Machine.{SurfaceNow, ActorNow, RunNow, after_hooked_event_on, after_hooked_event_by, after_hooked_event_of, after_hooked_turn}
+use Rattle.run_report.specs.Wishes.{Wish, as_written}
 
 -- the steps after the first
 abbrev pub later : List PlainStep → List PlainStep
@@ -26,25 +27,19 @@ recorded entry surface = record surface { records = surface.records ++ entry ∷
 abbrev pub mounted_at : ℕ → SurfaceNow → SurfaceNow
 mounted_at number surface = record surface { base = number }
 
--- an event on the surface that was found
+-- an event of a commit that asks for what its step has, on the surface that was found, with these steps left, of the actor that was found
 abbrev pub after_event_on : RunNow → (number : ℕ) → ActorNow → PlainAct → Option SurfaceNow → RunNow
-after_event_on run number actor act found = unwrap_or (option_map (λ surface. with_moment run number (after_event number act surface actor)) found) run
+after_event_on = after_hooked_event_on as_written
 
--- an event of an actor with these steps left
 abbrev pub after_event_by : RunNow → (number : ℕ) → ActorNow → List PlainStep → RunNow
-after_event_by run number actor left =
-    unwrap_or (option_and_then (λ step. option_map (λ surface. with_moment run number (after_event number step.act surface actor))
-    (find (λ surface. nat_eq surface.id step.surface) run.surfaces)) (slice_get left 0)) run
+after_event_by = after_hooked_event_by as_written
 
--- an event of the actor that was found
 abbrev pub after_event_of : RunNow → (number : ℕ) → Option ActorNow → RunNow
-after_event_of run number found =
-    unwrap_or (option_and_then (λ actor. option_and_then (λ step. option_map (λ surface. with_moment run number (after_event number step.act surface actor))
-    (find (λ surface. nat_eq surface.id step.surface) run.surfaces)) (slice_get actor.left 0)) found) run
+after_event_of = after_hooked_event_of as_written
 
 -- a run after some turns
-abbrev pub after_turns : RunNow → List ℕ → RunNow
-after_turns run turns = fold after_turn run turns
+abbrev pub after_hooked_turns : Wish → RunNow → List ℕ → RunNow
+after_hooked_turns wish run turns = fold (after_hooked_turn wish) run turns
 
 -- a surface before the first turn
 abbrev pub opened : PlainSurface → SurfaceNow

@@ -1,12 +1,22 @@
 //! Laws of journals: what every run keeps, and when a report tells its journal.
 
-ghost use Rattle.std.specs.Prelude.{◌≡◌};
-ghost use Rattle.tree_revision.specs.Script.{PlainScript};
+ghost use Rattle.std.specs.Prelude.{◌≡◌, ℕ, ◌≤◌, ◌<◌, List, length, map, nat_eq, false, slice_get, Some, None};
+ghost use Rattle.std.specs.List.{AllZip};
+ghost use Rattle.shadow_frame.specs.declared.Size.{Size};
+ghost use Rattle.tree_revision.specs.Records.{PlainRecord};
+ghost use Rattle.tree_revision.specs.Script.{PlainAct, mount, PlainStep, PlainScript};
 ghost use Rattle.tree_revision.specs.Sound.{IsSoundScript};
+ghost use Rattle.tree_revision.specs.Lawful.{IsLawful};
+ghost use Rattle.tree_revision.specs.Ports.{BeginsWith};
+ghost use Rattle.run_report.specs.declared.journal.StepPart.{StepPart};
 ghost use Rattle.run_report.specs.Journal.{PlainJournal};
+ghost use Rattle.run_report.specs.Mounts.{passages_by, last_to, mount_along};
 ghost use Rattle.run_report.specs.Text.{report_text};
-ghost use Rattle.run_report.specs.Machine.{journal_of_turns};
-ghost use Rattle.run_report.specs.Legal.{IsLegal};
+ghost use Rattle.run_report.specs.Machine.{SurfaceNow, ActorNow, after_hooked_event, journal_of_hooked_turns, journal_of_turns};
+ghost use Rattle.run_report.specs.Shorthands.{trying};
+ghost use Rattle.run_report.specs.Legal.{HasFormOf, IsHookLegal, IsLegal};
+ghost use Rattle.run_report.specs.ActorLegal.{GoesThrough, PassagesFollowOn, MountsFollow, IsLegalSoFar, MayTakeEvent, IsLegalAfter, IsPutTogether};
+ghost use Rattle.run_report.specs.Wishes.{Wish, KeepsRange};
 ghost use Rattle.run_report.specs.Ranges.{IsInRange};
 ghost use Rattle.run_report.specs.Readable.{HasNames, IsReadable};
 
@@ -25,7 +35,70 @@ pub fn reports_tell_legal_journals()
         → IsInRange a → IsInRange b → report_text a ≡ report_text b → a ≡ b }
 {}
 
+/// For every sound script, and every wish that keeps changes in range: the journal of the script's turns, in which each
+/// commit asks for what is wished of it, is legal for that wish.
+pub fn journals_of_hooked_turns_are_legal()
+    ensures { (wish : Wish) (script : PlainScript) → KeepsRange wish → IsSoundScript script
+        → IsHookLegal wish script (journal_of_hooked_turns wish script) }
+{}
+
 /// For every sound script, the journal of its turns is legal.
 pub fn journals_of_turns_are_legal()
     ensures { (script : PlainScript) → IsSoundScript script → IsLegal script (journal_of_turns script) }
+{}
+
+/// An actor that is legal so far stays so when the history grows, and with it what was reached.
+pub fn longer_histories_keep_actors_legal()
+    ensures { (wish : Wish) (first : Size) (id : ℕ) (records longer : List PlainRecord) (floor reached number : ℕ)
+        (steps : List PlainStep) (actor : ActorNow) → BeginsWith longer records → floor ≤ reached
+        → IsLegalSoFar wish first id records floor number steps actor
+        → IsLegalSoFar wish first id longer reached number steps actor }
+{}
+
+/// One event keeps its actor legal on its surface, whatever number is reached from then on.
+pub fn events_keep_actors_legal()
+    ensures { (wish : Wish) (floor reached number : ℕ) (steps : List PlainStep) (step : PlainStep) (surface : SurfaceNow)
+        (actor : ActorNow) → MayTakeEvent wish floor number steps step surface actor → length surface.records ≤ reached
+        → IsLegalAfter wish reached number steps (after_hooked_event wish number step.act surface actor) }
+{}
+
+/// An offer that comes too late keeps its actor legal: a number above the one that it looked at was reached.
+pub fn late_offers_keep_actors_legal()
+    ensures { (wish : Wish) (first : Size) (id : ℕ) (records : List PlainRecord) (floor reached number : ℕ)
+        (steps : List PlainStep) (step : PlainStep) (actor : ActorNow) (at : ℕ) → GoesThrough steps actor
+        → slice_get actor.left 0 ≡ Some step → step.surface ≡ id → actor.looked ≡ Some at → at < reached
+        → IsLegalSoFar wish first id records floor number steps actor
+        → IsLegalSoFar wish first id records reached number steps (trying actor.tries None actor) }
+{}
+
+/// An event on another surface keeps its actor legal on this one.
+pub fn events_elsewhere_keep_actors_legal()
+    ensures { (wish : Wish) (first : Size) (id : ℕ) (records : List PlainRecord) (floor number : ℕ)
+        (steps : List PlainStep) (step : PlainStep) (surface : SurfaceNow) (actor : ActorNow) → GoesThrough steps actor
+        → slice_get actor.left 0 ≡ Some step → step.surface ≡ surface.id → nat_eq step.surface id ≡ false
+        → IsLegalSoFar wish first id records floor number steps actor
+        → IsLegalSoFar wish first id records floor number steps (after_hooked_event wish number step.act surface actor).actor }
+{}
+
+/// One event keeps its actor's passages on its surface, where a mount begins where the last of them leads.
+pub fn events_keep_passages()
+    ensures { (wish : Wish) (number : ℕ) (act : PlainAct) (surface : SurfaceNow) (actor : ActorNow)
+        → PassagesFollowOn surface.id surface.records number actor.answers
+        → (act ≡ mount → surface.base ≡ last_to (passages_by surface.id number actor.answers))
+        → let after = after_hooked_event wish number act surface actor in
+        PassagesFollowOn surface.id after.surface.records number after.actor.answers }
+{}
+
+/// Over a lawful history, mounts along an actor's passages follow them, and the views follow the mounts.
+pub fn mounts_along_passages_follow()
+    ensures { (first : Size) (id : ℕ) (entries : List PlainRecord) (number : ℕ) (answers : List StepPart)
+        → IsLawful first entries → PassagesFollowOn id entries number answers
+        → MountsFollow first id entries number answers (map (mount_along first entries) (passages_by id number answers)) }
+{}
+
+/// For every sound script: a journal of its form, each of whose parts is put together of what the actors keep, is legal.
+pub fn parts_make_legal_journals()
+    ensures { (wish : Wish) (script : PlainScript) → IsSoundScript script → (journal : PlainJournal) → HasFormOf script journal
+        → AllZip (λ surface part. IsPutTogether wish script journal.actors surface.size part) script.surfaces journal.surfaces
+        → IsHookLegal wish script journal }
 {}

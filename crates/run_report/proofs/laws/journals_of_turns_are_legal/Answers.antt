@@ -1,5 +1,6 @@
+use Rattle.run_report.specs.Wishes.{as_written}
 use Rattle.run_report.proofs.AtEnd.{turns_legal}
 use Rattle.run_report.proofs.laws.journals_of_turns_are_legal.Goals as goal
 
 pub returns : goal.returns
-returns c = turns_legal
+returns c script sound = turns_legal as_written (λ entries held op fits. fits) script sound

@@ -4,8 +4,14 @@ use Rattle.script_read.specs.Plain.{plain_act}
 use Rattle.run_engine.specs.Now.{surface_now}
 use Rattle.run_engine.proofs.Events.{with_ok}
 use Rattle.run_engine.proofs.Places.{at_item}
-use Rattle.run_engine.proofs.Turn.{left_same, found_at, may_turn, has_turned, has_rested}
+use Rattle.run_engine.proofs.Turn.{left_same, found_at, may_turn, has_turned, has_rested, has_ended}
 use Rattle.run_engine.proofs.runs.Run.turn.Goals as goal
+
+pub returns-in_default : goal.returns-in_default
+returns-in_default c =
+    has_ended c.args.self.now c.requires c.args.number c.index.result.now
+    (at_item c.args.self.now.actors.items c.args.number c.index.result.now c.index.ensures (omega (arith, c.len.ensures, c.if-number-len.false)))
+    (sym c.step.ensures ∙ ap option_copied c.in_default.is)
 
 pub returns-in_default-desk_place : goal.returns-in_default-desk_place
 returns-in_default-desk_place c =
