@@ -1,5 +1,5 @@
 -- One event keeps what its actor keeps on its surface, and on the others.
-use Rattle.std.proofs.Common.{◌≡◌, ℕ, ◌+◌, ◌≤◌, ◌<◌, Bool, true, false, cond, List, [], ◌∷◌, ◌++◌, length, map, nat_eq, slice_get, Option, Some, None, arith, refl, ap, sym, ◌∙◌, subst, append-nil, eq-eqb}
+use Rattle.std.proofs.Common.{◌≡◌, ℕ, ◌+◌, ◌≤◌, ◌<◌, Bool, true, false, cond, List, [], ◌∷◌, ◌++◌, length, map, nat_eq, slice_get, Option, Some, None, arith, refl, ap, sym, ◌∙◌, subst, eq-eqb}
 use Rattle.std.specs.List.{fold, flat_map, enumerate_from}
 use Rattle.std.proofs.lemmas.Bool.{both_ways, eqb-true, eqb-false}
 use Rattle.std.proofs.lemmas.Option.{none-some, same_Some}
@@ -10,11 +10,13 @@ use Rattle.tree_revision.specs.Script.{PlainAct, commit, hold, mount, PlainStep}
 use Rattle.tree_revision.specs.Cancels.{cancel_of}
 use Rattle.tree_revision.specs.Lawful.{IsLawful}
 use Rattle.tree_revision.specs.Mountable.{mountable_of}
-use Rattle.tree_revision.proofs.Mountable.{mountable_of-rises}
+use Rattle.tree_revision.proofs.Mountable.{mountable_of-rises, mountable_of-within}
 use Rattle.tree_revision.specs.declared.record.Cancel.{Cancel}
 use Rattle.tree_revision.specs.declared.record.Answer.{Answer}
 use Rattle.tree_revision.specs.declared.record.Answer.TheVariants.{Held, Admitted, Cancelled, Mounted, Empty}
 use Rattle.host_views.specs.Registry.{registry_of}
+use Rattle.tree_revision.specs.Ports.{BeginsWith}
+use Rattle.run_report.specs.Journal.{PlainMount}
 use Rattle.run_report.specs.declared.journal.StepName.{StepName}
 use Rattle.run_report.specs.declared.journal.StepPart.{StepPart}
 use Rattle.run_report.specs.Points.{number_held, mounted_after}
@@ -27,10 +29,11 @@ use Rattle.run_report.specs.ActorLegal.{GoesThrough, PassagesFollowOn, MountsFol
 use Rattle.run_report.proofs.Actors.{through_answered, through_trying, legal_trying, legal_elsewhere}
 use Rattle.run_report.proofs.ActorEvents.{tried_so_far, legal_held, legal_empty, legal_mounted, legal_cancelled, legal_looked, legal_admitted, legal_late}
 use Rattle.run_report.proofs.Passages.{follow_on_push, last_to-push, passages_by-push, passages_by-quiet}
-use Rattle.run_report.proofs.Followed.{mounts_follow, nothing_shown}
+use Rattle.run_report.proofs.Followed.{mounts_over_more, mounts_follow, nothing_shown}
+use Rattle.run_report.proofs.Begins.{begins_more}
 
 -- the first step that is left, and those after it
-first_left : (left : List PlainStep) (step : PlainStep) → slice_get left 0 ≡ Some step → (rest : List PlainStep) × (left ≡ step ∷ rest)
+pub first_left : (left : List PlainStep) (step : PlainStep) → slice_get left 0 ≡ Some step → (rest : List PlainStep) × (left ≡ step ∷ rest)
 first_left [] step e = absurd (none-some step e)
 first_left (s ∷ rest) step e = (rest, ap (λ s. s ∷ rest) (same_Some s step e))
 
@@ -260,3 +263,14 @@ mounts_along_follow first id entries number answers lawful p = record {
   along = refl;
   views = mounts_follow first entries lawful 0 (passages_by id number answers) (registry_of []) p.forward (nothing_shown first entries lawful);
 }
+
+-- over a longer lawful history they still do
+pub mounts_stay : (first : Size) (id : ℕ) (records longer : List PlainRecord) (number : ℕ) (answers : List StepPart) (mounts : List PlainMount)
+    → BeginsWith longer records → IsLawful first longer → MountsFollow first id records number answers mounts → MountsFollow first id longer number answers mounts
+mounts_stay first id records longer number answers mounts grows lawful h =
+    let more = begins_more longer records grows in
+    let rises : mountable_of records ≤ mountable_of longer = omega (arith, mountable_of-rises records more.0, ap mountable_of more.1) in
+    let p : PassagesFollowOn id longer number answers = record { forward = h.passages.forward; within = omega (arith, h.passages.within, rises) } in
+    let along : mounts ≡ map (mount_along first longer) (passages_by id number answers) =
+    h.along ∙ sym (mounts_over_more first records longer grows 0 (passages_by id number answers) h.passages.forward (omega (arith, h.passages.within, mountable_of-within records))) in
+    subst (MountsFollow first id longer number answers) (sym along) (mounts_along_follow first id longer number answers lawful p)

@@ -1,11 +1,14 @@
 -- The mounts of a surface follow on, and its host views follow them.
-use Rattle.std.proofs.Common.{◌≡◌, ℕ, ◌≤◌, cond, List, [], ◌∷◌, ◌++◌, map, take, drop, nat_eq, None, arith, refl, ap, sym, ◌∙◌, subst, take-append-drop, take-take, inl, inr}
+use Rattle.std.proofs.Common.{◌≡◌, ℕ, ◌≤◌, cond, List, [], ◌∷◌, ◌++◌, length, map, take, drop, nat_eq, None, arith, refl, ap, sym, ◌∙◌, subst, take-append-drop, take-take, inl, inr}
+use Rattle.std.specs.List.{fold}
 use Rattle.std.proofs.lemmas.Bool.{cases_Bool, eqb-false}
 use Rattle.shadow_frame.specs.declared.Size.{Size}
 use Rattle.host_views.specs.Registry.{PlainRegistry, MayApply, mutated, registry_of}
 use Rattle.view_flatten.specs.HostTree.{host_tree_of}
+use Rattle.view_mutation.specs.Mutations.{mutations_between}
 use Rattle.view_mutation.specs.Leads.{LeadOn}
 use Rattle.tree_revision.specs.Records.{PlainRecord}
+use Rattle.tree_revision.specs.Ports.{BeginsWith}
 use Rattle.tree_revision.specs.Stands.{settled_of}
 use Rattle.tree_revision.specs.Lawful.{IsLawful}
 use Rattle.tree_revision.specs.Mountable.{mountable_of}
@@ -31,6 +34,25 @@ closed_follows entries passages h low =
           subst (λ b. FollowOn 0 (cond b passages (passages ++ passage (last_to passages) (mountable_of entries) None ∷ []))) (sym e)
           (follow_on_push 0 passages (passage (last_to passages) (mountable_of entries) None) h refl (omega (arith, low, eqb-false (last_to passages) (mountable_of entries) e)))
     ]
+
+-- passages that follow on lead up
+pub leads_up : (base : ℕ) (passages : List Passage) → FollowOn base passages → base ≤ fold (λ number step. step.to) base passages
+leads_up base [] f = omega arith
+leads_up base (step ∷ passages) f = omega (arith, f.0, f.1, leads_up step.to passages f.2)
+
+-- a longer history changes no mount between earlier revisions
+module _ (first : Size) (records longer : List PlainRecord) (grows : BeginsWith longer records) where
+  same_tree : (n : ℕ) → n ≤ length records → host_tree_at first longer n ≡ host_tree_at first records n
+  same_tree n low = ap (λ l. host_tree_of (settled_of first l)) (sym (take-take n (length records) longer low) ∙ ap (take n) grows.same)
+
+  pub mounts_over_more : (base : ℕ) (passages : List Passage) → FollowOn base passages → fold (λ number step. step.to) base passages ≤ length records
+      → map (mount_along first longer) passages ≡ map (mount_along first records) passages
+  mounts_over_more base [] f low = refl
+  mounts_over_more base (step ∷ passages) f low =
+      let up : step.to ≤ fold (λ number step. step.to) step.to passages = leads_up step.to passages f.2 in
+      let from = same_tree step.base (omega (arith, up, f.1, low)) in
+      let to = same_tree step.to (omega (arith, up, low)) in
+      λ i. (record { base = step.base; to = step.to; by = step.by; mutations = mutations_between (from i) (to i) }) ∷ mounts_over_more step.to passages f.2 low i
 
 module _ (first : Size) (entries : List PlainRecord) (lawful : IsLawful first entries) where
   -- mutations lead from one revision to a later one

@@ -6,6 +6,7 @@ pub mod Begins
 pub mod Begun
 mod Ending
 pub mod EventLegal
+pub mod EventNames
 pub mod Events
 mod Followed
 mod Good

@@ -1,5 +1,5 @@
 -- What a run keeps of a surface, after each event.
-use Rattle.std.proofs.Common.{◌≡◌, ℕ, ◌≤◌, Bool, true, false, cond, ◌&&◌, ◌||◌, List, [], ◌∷◌, ◌++◌, length, nat_eq, slice_get, slice_set, option_and_then, Option, Some, refl, ap, sym, ◌∙◌, subst, append-nil}
+use Rattle.std.proofs.Common.{◌≡◌, ℕ, ◌≤◌, true, false, cond, ◌&&◌, ◌||◌, List, [], ◌∷◌, ◌++◌, length, nat_eq, slice_get, slice_set, option_and_then, Option, Some, refl, ap, sym, ◌∙◌, subst, append-nil}
 use Rattle.std.specs.List.{AllByRecursion, enumerate_from, list_any}
 use Rattle.std.proofs.lemmas.Bool.{or_left, or_right, and_from, eq-eqb, both_ways}
 use Rattle.std.proofs.lemmas.Option.{same_Some}
@@ -15,7 +15,7 @@ use Rattle.run_report.specs.declared.journal.StepName.{StepName}
 use Rattle.run_report.specs.declared.journal.StepPart.{StepPart}
 use Rattle.run_report.specs.Points.{mounted_after}
 use Rattle.run_report.specs.Shorthands.{number_mounted, passages_named, trying, step_named}
-use Rattle.run_report.specs.Mounts.{Passage, passage_of, passages_by, last_to}
+use Rattle.run_report.specs.Mounts.{passage_of, passages_by, last_to}
 use Rattle.run_report.specs.Wishes.{Wish}
 use Rattle.run_report.specs.Legal.{Answers, FollowOn}
 use Rattle.run_report.specs.Machine.{SurfaceNow, ActorNow, answered}

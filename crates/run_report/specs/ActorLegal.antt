@@ -1,5 +1,5 @@
 -- What one actor keeps on one surface, over the history that is known there so far: its answers, its commit under way, the records and looks that its answers name, and its mounts.
-use Rattle.std.specs.Prelude.{◌≡◌, ℕ, ◌+◌, ◌-◌, ◌≤◌, List, [], ◌∷◌, ◌++◌, length, take, map, filter, flat_map, sum_by, count_by, min, Contains, nat_eq, if◌then◌else◌, true, is_none, slice_get, Option, Some, None}
+use Rattle.std.specs.Prelude.{◌≡◌, ℕ, ◌+◌, ◌-◌, ◌≤◌, List, [], ◌∷◌, ◌++◌, length, take, drop, map, filter, flat_map, sum_by, count_by, min, Contains, nat_eq, if◌then◌else◌, true, is_none, slice_get, Option, Some, None}
 use Rattle.std.specs.List.{AllByRecursion, AllZip, enumerate_from, range_with_len}
 use Rattle.shadow_frame.specs.declared.Size.{Size}
 use Rattle.host_views.specs.Registry.{registry_of}
@@ -39,10 +39,24 @@ looks_of _ = 1
 abbrev pub looks_named : (id : ℕ) → List StepPart → ℕ
 looks_named id answers = sum_by (λ part. if nat_eq part.surface id then looks_of part.answer else 0) answers
 
--- how often a commit under way has looked on the surface of that id
+-- how often a commit under way has looked
+abbrev pub tries_of : PlainAct → (tries : ℕ) → ℕ
+tries_of (commit op) tries = tries
+tries_of _ tries = 0
+
+-- how often the step that is at hand has looked on the surface of that id
 abbrev pub looks_under_way : (id : ℕ) → (left : List PlainStep) → (tries : ℕ) → ℕ
 looks_under_way id [] tries = 0
-looks_under_way id (step ∷ left) tries = if nat_eq step.surface id then tries else 0
+looks_under_way id (step ∷ left) tries = if nat_eq step.surface id then tries_of step.act tries else 0
+
+-- how often an actor has looked so far on the surface of that id
+abbrev pub looks_so_far : (id : ℕ) → ActorNow → ℕ
+looks_so_far id actor = looks_named id actor.answers + looks_under_way id actor.left actor.tries
+
+-- how often an event looks: once, but an offer not at all
+abbrev pub looks_at : PlainAct → (looked : Option ℕ) → ℕ
+looks_at (commit op) (Some at) = 0
+looks_at _ _ = 1
 
 -- the passages that an actor's answers name on the surface of that id follow on from number 0, and lead no further than what may be mounted
 pub record PassagesFollowOn (id : ℕ) (entries : List PlainRecord) (number : ℕ) (answers : List StepPart) : Type 0 where
@@ -128,6 +142,20 @@ module _ (wish : Wish) where
   abbrev pub admitted_records : (id : ℕ) → List PlainRecord → (number : ℕ) → List PlainStep → List StepPart → List (ℕ × PlainRecord)
   admitted_records id entries number steps answers =
       flat_map (λ taken. record_named id entries taken taken.step.act taken.answer) (taken_by number steps answers id)
+
+  -- an event on the surface of that id leaves the actor's looks there as many more as it looked, and its records with those by which the history grew
+  pub record NamesItsEvent (number : ℕ) (steps : List PlainStep) (step : PlainStep) (surface : SurfaceNow) (actor : ActorNow) (after : Moment) : Type 0 where
+    pub looks : looks_so_far surface.id after.actor ≡ looks_so_far surface.id actor + looks_at step.act actor.looked
+    pub records : admitted_records surface.id after.surface.records number steps after.actor.answers
+        ≡ admitted_records surface.id after.surface.records number steps actor.answers
+        ++ enumerate_from (length surface.records + 1) (drop (length surface.records) after.surface.records)
+
+  -- what an actor names and holds on the surface of that id is the same
+  pub record NamesTheSame (id : ℕ) (entries : List PlainRecord) (number : ℕ) (steps : List PlainStep) (before after : ActorNow) : Type 0 where
+    pub looks : looks_so_far id after ≡ looks_so_far id before
+    pub records : admitted_records id entries number steps after.answers ≡ admitted_records id entries number steps before.answers
+    pub passages : passages_by id number after.answers ≡ passages_by id number before.answers
+    pub held : number_held id after.answers ≡ number_held id before.answers
 
   -- a record of that number is one that some actor's admitted answers name
   pub record IsAdmittedBySome (script : PlainScript) (actors : List PlainActorPart) (id : ℕ) (entries : List PlainRecord) (number : ℕ) (entry : PlainRecord) : Type 0 where

@@ -9,13 +9,13 @@ ghost use Rattle.tree_revision.specs.Sound.{IsSoundScript};
 ghost use Rattle.tree_revision.specs.Lawful.{IsLawful};
 ghost use Rattle.tree_revision.specs.Ports.{BeginsWith};
 ghost use Rattle.run_report.specs.declared.journal.StepPart.{StepPart};
-ghost use Rattle.run_report.specs.Journal.{PlainJournal};
+ghost use Rattle.run_report.specs.Journal.{PlainMount, PlainJournal};
 ghost use Rattle.run_report.specs.Mounts.{passages_by, last_to, mount_along};
 ghost use Rattle.run_report.specs.Text.{report_text};
 ghost use Rattle.run_report.specs.Machine.{SurfaceNow, ActorNow, after_hooked_event, journal_of_hooked_turns, journal_of_turns};
 ghost use Rattle.run_report.specs.Shorthands.{trying};
 ghost use Rattle.run_report.specs.Legal.{HasFormOf, IsHookLegal, IsLegal};
-ghost use Rattle.run_report.specs.ActorLegal.{GoesThrough, PassagesFollowOn, MountsFollow, IsLegalSoFar, MayTakeEvent, IsLegalAfter, IsPutTogether};
+ghost use Rattle.run_report.specs.ActorLegal.{GoesThrough, PassagesFollowOn, MountsFollow, IsLegalSoFar, MayTakeEvent, IsLegalAfter, IsPutTogether, AreLegalAnswers, admitted_records, NamesItsEvent, NamesTheSame};
 ghost use Rattle.run_report.specs.Wishes.{Wish, KeepsRange};
 ghost use Rattle.run_report.specs.Ranges.{IsInRange};
 ghost use Rattle.run_report.specs.Readable.{HasNames, IsReadable};
@@ -101,4 +101,34 @@ pub fn parts_make_legal_journals()
     ensures { (wish : Wish) (script : PlainScript) → IsSoundScript script → (journal : PlainJournal) → HasFormOf script journal
         → AllZip (λ surface part. IsPutTogether wish script journal.actors surface.size part) script.surfaces journal.surfaces
         → IsHookLegal wish script journal }
+{}
+
+/// One event names what it did on its surface: an actor's looks rise by as often as it looked, and the records that its
+/// admitted answers name are those before and the one by which the history grew.
+pub fn events_name_what_they_did()
+    ensures { (wish : Wish) (number : ℕ) (steps : List PlainStep) (step : PlainStep) (surface : SurfaceNow) (actor : ActorNow)
+        → GoesThrough steps actor → slice_get actor.left 0 ≡ Some step → step.surface ≡ surface.id
+        → NamesItsEvent wish number steps step surface actor (after_hooked_event wish number step.act surface actor) }
+{}
+
+/// An event on another surface changes nothing of what its actor names and holds on this one.
+pub fn events_elsewhere_name_nothing()
+    ensures { (wish : Wish) (id : ℕ) (entries : List PlainRecord) (number : ℕ) (steps : List PlainStep) (step : PlainStep)
+        (surface : SurfaceNow) (actor : ActorNow) → GoesThrough steps actor
+        → slice_get actor.left 0 ≡ Some step → step.surface ≡ surface.id → nat_eq step.surface id ≡ false
+        → NamesTheSame wish id entries number steps actor (after_hooked_event wish number step.act surface actor).actor }
+{}
+
+/// The records that legal answers name are the same over a longer history.
+pub fn longer_histories_keep_named_records()
+    ensures { (wish : Wish) (first : Size) (id : ℕ) (records longer : List PlainRecord) (number : ℕ) (steps : List PlainStep)
+        (answers : List StepPart) → BeginsWith longer records → AreLegalAnswers wish first id records number steps answers
+        → admitted_records wish id longer number steps answers ≡ admitted_records wish id records number steps answers }
+{}
+
+/// An actor's mounts follow its passages over a longer lawful history, too.
+pub fn longer_histories_keep_mounts()
+    ensures { (first : Size) (id : ℕ) (records longer : List PlainRecord) (number : ℕ) (answers : List StepPart)
+        (mounts : List PlainMount) → BeginsWith longer records → IsLawful first longer
+        → MountsFollow first id records number answers mounts → MountsFollow first id longer number answers mounts }
 {}
