@@ -38,3 +38,13 @@ pub mod Surfaces
 pub mod Together
 pub mod Turns
 mod States
+pub mod RecordCounts
+pub mod CellsInRange
+pub mod RevisionsInRange
+pub mod ViewsInRange
+pub mod MutationsInRange
+pub mod TreesInRange
+pub mod CausesInRange
+pub mod AnswersInRange
+pub mod PassagesInRange
+pub mod JournalsInRange

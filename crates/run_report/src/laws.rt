@@ -5,7 +5,7 @@ ghost use Rattle.std.specs.List.{AllZip};
 ghost use Rattle.shadow_frame.specs.declared.Size.{Size};
 ghost use Rattle.tree_revision.specs.Records.{PlainRecord};
 ghost use Rattle.tree_revision.specs.Script.{PlainAct, mount, PlainStep, PlainScript};
-ghost use Rattle.tree_revision.specs.Sound.{IsSoundScript};
+ghost use Rattle.tree_revision.specs.Sound.{IsSoundScript, IsWithinCounts};
 ghost use Rattle.tree_revision.specs.Lawful.{IsLawful};
 ghost use Rattle.tree_revision.specs.Ports.{BeginsWith};
 ghost use Rattle.run_report.specs.declared.journal.StepPart.{StepPart};
@@ -28,11 +28,16 @@ pub fn reports_tell_their_journals()
         → report_text a ≡ report_text b → a ≡ b }
 {}
 
-/// For every sound script, two legal journals of it whose numbers and props are in range are one journal where they have
-/// the same report.
+/// For every sound script within the counts, the numbers and props of each legal journal of it are in range.
+pub fn legal_journals_are_in_range()
+    ensures { (script : PlainScript) (journal : PlainJournal) → IsSoundScript script → IsWithinCounts script
+        → IsLegal script journal → IsInRange journal }
+{}
+
+/// For every sound script within the counts, two legal journals of it are one journal where they have the same report.
 pub fn reports_tell_legal_journals()
-    ensures { (script : PlainScript) (a b : PlainJournal) → IsSoundScript script → IsLegal script a → IsLegal script b
-        → IsInRange a → IsInRange b → report_text a ≡ report_text b → a ≡ b }
+    ensures { (script : PlainScript) (a b : PlainJournal) → IsSoundScript script → IsWithinCounts script
+        → IsLegal script a → IsLegal script b → report_text a ≡ report_text b → a ≡ b }
 {}
 
 /// For every sound script, and every wish that keeps changes in range: the journal of the script's turns, in which each

@@ -32,7 +32,7 @@ of_tags P [] h = tt
 of_tags P (fields ∷ others) h = (h.0, of_tags P others h.1)
 
 -- what holds of a found node and of those below it
-abbrev OfFound : (NodeFields → Type 0) → Option (PlainNode NodeFields) → Type 0
+abbrev pub OfFound : (NodeFields → Type 0) → Option (PlainNode NodeFields) → Type 0
 OfFound P None = Unit {0}
 OfFound P (Some tree) = P tree.fields × AllFields P tree.children
 
@@ -42,7 +42,7 @@ of_first P None b h k = k
 of_first P (Some tree) b h k = h
 
 -- what holds of each node holds of the one that is found
-found_in : (P : NodeFields → Type 0) (tag : ℕ) (forest : PlainForest NodeFields) → AllFields P forest → OfFound P (first_with tag forest)
+pub found_in : (P : NodeFields → Type 0) (tag : ℕ) (forest : PlainForest NodeFields) → AllFields P forest → OfFound P (first_with tag forest)
 found_in P tag none h = tt
 found_in P tag (node fields children siblings) h =
     elim (nat_eq fields.tag tag) as (λ b. OfFound P (cond b (Some (record { fields = fields; children = children })) (option_or (first_with tag children) (first_with tag siblings)))) [
