@@ -1,4 +1,6 @@
 pub mod Outcome
-pub mod OneWord
+pub mod WordLists
 pub mod Told
 pub mod Counts
+pub mod Answering
+pub mod Parsed

@@ -1,74 +1,105 @@
--- What is answered where no count of faults rose, by the bytes of the source.
+-- How a command ends, by what it leaves.
 use Rattle.std.proofs.Common.{◌≡◌, ◌<◌, ℕ, List, length, true, ap, sym, ◌∙◌, refl, subst, inl, inr}
 use Rattle.std.specs.Prelude.{Option, Some, None, Ok, Err, Result, nat_lt}
 use Rattle.std.proofs.lemmas.Bool.{lt-ltb}
-use Rattle.script_read.specs.declared.script.ScriptFault.TheVariants.{TooLong}
-use Rattle.byte_ports.specs.Sources.{SourceView, IsToldAs, IsLongerThan}
-use Rattle.byte_ports.specs.Sinks.{SinkView}
-use Rattle.tree_revision.specs.Script.{PlainScript}
 use Rattle.script_read.specs.declared.script.ScriptFault.{ScriptFault}
-use Rattle.fabric_run.specs.declared.status.Status.{Status}
-use Rattle.fabric_run.specs.declared.status.Status.TheVariants.{Done, Refused, Usage, ReadFault, WriteFault, Memory}
+use Rattle.script_read.specs.declared.script.ScriptFault.TheVariants.{TooLong}
 use Rattle.script_read.specs.Reads.{script_in}
 use Rattle.counts.specs.Raised.{HasRisen}
-use Rattle.fabric_run.specs.Outcome.{TurnsLeave, SourceIsRefused, IsDoneOrMemory, IsRefusedOrMemory}
+use Rattle.byte_ports.specs.Sources.{SourceView, IsToldAs, IsLongerThan}
+use Rattle.byte_ports.specs.Sinks.{SinkView}
+use Rattle.fabric_run.specs.declared.status.Status.{Status}
+use Rattle.fabric_run.specs.declared.status.Status.TheVariants.{Done, Refused, Usage, ReadFault, WriteFault, Memory}
+use Rattle.fabric_run.specs.Outcome.{Reading, ReadsAs, HasFault, Leaves, TextLeaves, Ends, EndsAlone, IsDoneOrMemory, IsRefusedOrMemory}
+use Rattle.fabric_run.specs.Commands.{script_reading}
+use Rattle.fabric_run.specs.Steps.{WritesText}
 
--- bytes are a script or have a fault, and not both
-never_both : (script : PlainScript) (fault : ScriptFault) (read : Result PlainScript ScriptFault) → read ≡ Ok script → read ≡ Err fault → ⊥
-never_both script fault read ok err = cc
+-- a text at hand of which that holds is left on the sink
+pub text_leaves : (IsText : List ℕ → Type 0) (text : List ℕ) (old new : SinkView) (status : Status) → IsText text → WritesText text old new status → TextLeaves IsText old new status
+text_leaves IsText text old new Done holds written = record { text = text; holds = holds; written = written }
+text_leaves IsText text old new (Refused fault) holds written = written
+text_leaves IsText text old new Usage holds written = written
+text_leaves IsText text old new ReadFault holds written = written
+text_leaves IsText text old new WriteFault holds written = record { text = text; holds = holds; written = written }
+text_leaves IsText text old new Memory holds written = written
+
+-- where no count rose, a text is written whole, or there is no memory
+pub ends_alone : (IsText : List ℕ → Type 0) (old new : SinkView) (status : Status) → TextLeaves IsText old new status → EndsAlone IsText old new status
+ends_alone IsText old new status leaves = record { leaves = leaves; complete = complete status leaves }
+  where
+    complete : (status : Status) → TextLeaves IsText old new status → ¬ HasRisen old.faults new.faults → IsDoneOrMemory status
+    complete Done leaves out = tt
+    complete (Refused fault) leaves out = leaves
+    complete Usage leaves out = leaves
+    complete ReadFault leaves out = leaves
+    complete WriteFault leaves out = out leaves.written.rose
+    complete Memory leaves out = tt
+
+-- bytes have one reading
+one_reading : {A B : Type 0} (read : Result A B) (thing : A) (fault : B) → read ≡ Ok thing → read ≡ Err fault → ⊥
+one_reading read thing fault ok err = cc
+
+same_fault : {A B : Type 0} (read : Result A B) (a b : B) → read ≡ Err a → read ≡ Err b → a ≡ b
+same_fault read a b first second = cc
 
 -- told bytes are the bytes that were read
 told_same : (left : Option (List ℕ)) (bytes read : List ℕ) → left ≡ Some bytes → IsToldAs left read → bytes ≡ read
 told_same None bytes read told same = cc
 told_same (Some left) bytes read told same = cc
 
--- more bytes than a script may have
-too_long : (bytes : List ℕ) → 4194304 < length bytes → script_in bytes ≡ Err TooLong
-too_long bytes h = let e : nat_lt 4194304 (length bytes) ≡ true = lt-ltb 4194304 (length bytes) h in rw e refl
+-- what was read of told bytes is what they are
+told_reads : {A : Type 0} (reading : Reading A) (old new : SourceView) (result : Result A ScriptFault) (bytes : List ℕ)
+    → ReadsAs reading old new result → old.left ≡ Some bytes → reading.reads bytes ≡ result
+told_reads reading old new result bytes read told = ap reading.reads (told_same old.left bytes read.bytes told read.told) ∙ read.reads
+
+-- more bytes than a command reads are too long
+abbrev pub RefusesMore : {A : Type 0} → Reading A → Type 0
+RefusesMore reading = (bytes : List ℕ) → reading.limit < length bytes → reading.reads bytes ≡ Err TooLong
 
 -- a fault that is answered is that of the told bytes
-refused_reads : (old new : SourceView) (out_old out_new : SinkView) (fault : ScriptFault) (bytes : List ℕ)
-    → SourceIsRefused old new out_old out_new fault → old.left ≡ Some bytes → script_in bytes ≡ Err fault
-refused_reads old new out_old out_new fault bytes (inl read) told =
-    ap script_in (told_same old.left bytes read.bytes told read.read.told) ∙ read.leaves.reads
-refused_reads old new out_old out_new fault bytes (inr long) told =
-    too_long bytes (subst (IsLongerThan 4194304) told long.long) ∙ ap Err (sym long.fault_is)
+fault_reads : {A : Type 0} (reading : Reading A) → RefusesMore reading → (old new : SourceView) (fault : ScriptFault) (bytes : List ℕ)
+    → HasFault reading old new fault → old.left ≡ Some bytes → reading.reads bytes ≡ Err fault
+fault_reads reading more old new fault bytes (inl read) told = told_reads reading old new (Err fault) bytes read told
+fault_reads reading more old new fault bytes (inr long) told = more bytes (subst (IsLongerThan reading.limit) told long.long) ∙ ap Err (sym long.fault_is)
 
--- where the bytes are a script, no fault is answered
-not_refused : (old new : SourceView) (out_old out_new : SinkView) (fault : ScriptFault) (bytes : List ℕ) (script : PlainScript)
-    → SourceIsRefused old new out_old out_new fault → old.left ≡ Some bytes → script_in bytes ≡ Ok script → IsDoneOrMemory (Refused fault)
-not_refused old new out_old out_new fault bytes script leaves told reads =
-    never_both script fault (script_in bytes) reads (refused_reads old new out_old out_new fault bytes leaves told)
+module _ {A : Type 0} (reading : Reading A) (more : RefusesMore reading) (IsTextOf : A → List ℕ → Type 0) (old new : SourceView) (out_old out_new : SinkView) where
+  complete : (status : Status) → Leaves reading IsTextOf old new out_old out_new status → (bytes : List ℕ) (thing : A) → old.left ≡ Some bytes → reading.reads bytes ≡ Ok thing
+      → ¬ HasRisen old.faults new.faults → ¬ HasRisen out_old.faults out_new.faults → IsDoneOrMemory status
+  complete Done leaves bytes thing told reads source out = tt
+  complete (Refused fault) leaves bytes thing told reads source out = one_reading (reading.reads bytes) thing fault reads (fault_reads reading more old new fault bytes leaves.0 told)
+  complete Usage leaves bytes thing told reads source out = leaves
+  complete ReadFault leaves bytes thing told reads source out = source leaves.0
+  complete WriteFault leaves bytes thing told reads source out = out leaves.leaves.written.rose
+  complete Memory leaves bytes thing told reads source out = tt
 
--- where the bytes are a script, the program is done, or there was no memory
-pub complete : (old new : SourceView) (out_old out_new : SinkView) (status : Status) (bytes : List ℕ) (script : PlainScript)
-    → TurnsLeave old new out_old out_new status → old.left ≡ Some bytes → script_in bytes ≡ Ok script
-    → ¬ HasRisen old.faults new.faults → ¬ HasRisen out_old.faults out_new.faults → IsDoneOrMemory status
-complete old new out_old out_new Done bytes script leaves told reads source out = tt
-complete old new out_old out_new (Refused fault) bytes script leaves told reads source out = not_refused old new out_old out_new fault bytes script leaves told reads
-complete old new out_old out_new Usage bytes script leaves told reads source out = leaves
-complete old new out_old out_new ReadFault bytes script leaves told reads source out = source leaves.rose
-complete old new out_old out_new WriteFault bytes script leaves told reads source out = out leaves.leaves.written.rose
-complete old new out_old out_new Memory bytes script leaves told reads source out = tt
+  refused : (status : Status) → Leaves reading IsTextOf old new out_old out_new status → (bytes : List ℕ) (fault : ScriptFault) → old.left ≡ Some bytes → reading.reads bytes ≡ Err fault
+      → ¬ HasRisen old.faults new.faults → IsRefusedOrMemory fault status
+  refused Done leaves bytes fault told reads source =
+      one_reading (reading.reads bytes) leaves.thing fault (told_reads reading old new (Ok leaves.thing) bytes leaves.read told) reads
+  refused (Refused answered) leaves bytes fault told reads source = same_fault (reading.reads bytes) answered fault (fault_reads reading more old new answered bytes leaves.0 told) reads
+  refused Usage leaves bytes fault told reads source = leaves
+  refused ReadFault leaves bytes fault told reads source = source leaves.0
+  refused WriteFault leaves bytes fault told reads source =
+      one_reading (reading.reads bytes) leaves.thing fault (told_reads reading old new (Ok leaves.thing) bytes leaves.read told) reads
+  refused Memory leaves bytes fault told reads source = tt
 
--- two faults that bytes have are one
-same_fault : (read : Result PlainScript ScriptFault) (a b : ScriptFault) → read ≡ Err a → read ≡ Err b → a ≡ b
-same_fault read a b first second = cc
+  -- what a command that reads leaves is how it ends
+  pub ends : (status : Status) → Leaves reading IsTextOf old new out_old out_new status → Ends reading IsTextOf old new out_old out_new status
+  ends status leaves = record { leaves = leaves; complete = complete status leaves; refused = refused status leaves }
 
--- where the bytes have a fault, it is answered, or there was no memory
-pub refused : (old new : SourceView) (out_old out_new : SinkView) (status : Status) (bytes : List ℕ) (fault : ScriptFault)
-    → TurnsLeave old new out_old out_new status → old.left ≡ Some bytes → script_in bytes ≡ Err fault → ¬ HasRisen old.faults new.faults
-    → IsRefusedOrMemory fault status
-refused old new out_old out_new Done bytes fault leaves told reads source =
-    never_both leaves.leaves.script fault (script_in bytes) (ap script_in (told_same old.left bytes leaves.bytes told leaves.read.told) ∙ leaves.leaves.reads) reads
-refused old new out_old out_new (Refused answered) bytes fault leaves told reads source =
-    same_fault (script_in bytes) answered fault (refused_reads old new out_old out_new answered bytes leaves told) reads
-refused old new out_old out_new Usage bytes fault leaves told reads source = leaves
-refused old new out_old out_new ReadFault bytes fault leaves told reads source = source leaves.rose
-refused old new out_old out_new WriteFault bytes fault leaves told reads source =
-    never_both leaves.leaves.script fault (script_in bytes) (ap script_in (told_same old.left bytes leaves.bytes told leaves.read.told) ∙ leaves.leaves.reads) reads
-refused old new out_old out_new Memory bytes fault leaves told reads source = tt
+-- a text of what was read ends the command
+pub ends_with_text : {A : Type 0} (reading : Reading A) → RefusesMore reading → (IsTextOf : A → List ℕ → Type 0) (old new : SourceView) (out_old out_new : SinkView) (status : Status) (thing : A)
+    → ReadsAs reading old new (Ok thing) → TextLeaves (IsTextOf thing) out_old out_new status → Ends reading IsTextOf old new out_old out_new status
+ends_with_text reading more IsTextOf old new out_old out_new status thing read leaves = ends reading more IsTextOf old new out_old out_new status (left status leaves)
+  where
+    left : (status : Status) → TextLeaves (IsTextOf thing) out_old out_new status → Leaves reading IsTextOf old new out_old out_new status
+    left Done leaves = record { thing = thing; read = read; leaves = leaves }
+    left (Refused fault) leaves = absurd leaves
+    left Usage leaves = leaves
+    left ReadFault leaves = absurd leaves
+    left WriteFault leaves = record { thing = thing; read = read; leaves = leaves }
+    left Memory leaves = leaves
 
--- a source of more bytes than a script may have is refused
-pub beyond : (old new : SourceView) (out : SinkView) → IsLongerThan 4194304 old.left → TurnsLeave old new out out (Refused TooLong)
-beyond old new out h = inr (record { fault_is = refl; long = h; unchanged = refl })
+-- more bytes than a script may have
+pub scripts_refuse_more : RefusesMore script_reading
+scripts_refuse_more bytes h = let e : nat_lt 4194304 (length bytes) ≡ true = lt-ltb 4194304 (length bytes) h in rw e refl

@@ -1,4 +1,6 @@
 pub mod Status
 pub mod Words
 pub mod Outcome
+pub mod Commands
+pub mod Steps
 pub mod Texts

@@ -1,80 +1,82 @@
 -- What the program leaves, by its status.
-use Rattle.std.specs.Prelude.{◌≡◌, ◌⊎◌, ℕ, List, [], Ok, Err}
+use Rattle.std.specs.Prelude.{◌≡◌, ◌⊎◌, ◌≤◌, ℕ, List, [], take, length, Option, Some, Result, Ok, Err}
 use Rattle.counts.specs.Raised.{HasRisen}
 use Rattle.byte_ports.specs.Sources.{SourceView, IsToldAs, IsLongerThan}
-use Rattle.byte_ports.specs.Sinks.{SinkView, Whole, Part}
-use Rattle.tree_revision.specs.Script.{PlainScript}
-use Rattle.script_read.specs.Reads.{script_in}
+use Rattle.byte_ports.specs.Sinks.{SinkView, plus}
 use Rattle.script_read.specs.declared.script.ScriptFault.{ScriptFault}
 use Rattle.script_read.specs.declared.script.ScriptFault.TheVariants.{TooLong}
-use Rattle.run_report.specs.Machine.{journal_of_turns}
-use Rattle.run_report.specs.Legal.{IsLegal}
-use Rattle.run_report.specs.Text.{report_text}
 use Rattle.fabric_run.specs.declared.status.Status.{Status}
 use Rattle.fabric_run.specs.declared.status.Status.TheVariants.{Done, Refused, Usage, ReadFault, WriteFault, Memory}
 
--- the whole report of the script that the bytes are is appended, and nothing else; the journal that it tells is legal
-pub record IsReported (bytes : List ℕ) (old new : SinkView) : Type 0 where
-  pub script : PlainScript
-  pub reads : script_in bytes ≡ Ok script
-  pub legal : IsLegal script (journal_of_turns script)
-  pub written : Whole old new (report_text (journal_of_turns script))
+-- all of a text is appended, and nothing else
+pub record Appends (old new : SinkView) (text : List ℕ) : Type 0 where
+  pub written : new.written ≡ plus old.written text
+  pub faults : old.faults ≤ new.faults
 
--- a write failed: the count of the sink rose, and the first bytes of the report are appended
-pub record IsCutOff (bytes : List ℕ) (old new : SinkView) : Type 0 where
-  pub script : PlainScript
-  pub reads : script_in bytes ≡ Ok script
-  pub written : Part old new (report_text (journal_of_turns script))
+-- a write failed: the count of the sink rose, and the first bytes of a text are appended
+pub record AppendsPart (old new : SinkView) (text : List ℕ) : Type 0 where
+  pub upto : ℕ
+  pub within : upto ≤ length text
+  pub written : new.written ≡ plus old.written (take upto text)
+  pub rose : HasRisen old.faults new.faults
+  pub faults : old.faults ≤ new.faults
 
--- the bytes have that fault, and nothing is appended
-pub record IsRefused (bytes : List ℕ) (old new : SinkView) (fault : ScriptFault) : Type 0 where
-  pub reads : script_in bytes ≡ Err fault
-  pub unchanged : new ≡ old
+-- a text of which that holds is appended, and nothing else
+pub record IsWritten (IsText : List ℕ → Type 0) (old new : SinkView) : Type 0 where
+  pub text : List ℕ
+  pub holds : IsText text
+  pub written : Appends old new text
 
--- what running bytes leaves on the sink
-abbrev pub BytesLeave : List ℕ → (old new : SinkView) → Status → Type 0
-BytesLeave bytes old new Done = IsReported bytes old new
-BytesLeave bytes old new (Refused fault) = IsRefused bytes old new fault
-BytesLeave bytes old new Usage = ⊥
-BytesLeave bytes old new ReadFault = ⊥
-BytesLeave bytes old new WriteFault = IsCutOff bytes old new
-BytesLeave bytes old new Memory = new ≡ old
+-- a write failed: the count of the sink rose, and the first bytes of a text of which that holds are appended
+pub record IsCutOff (IsText : List ℕ → Type 0) (old new : SinkView) : Type 0 where
+  pub text : List ℕ
+  pub holds : IsText text
+  pub written : AppendsPart old new text
 
--- the source was read to its end, and its bytes were these
-pub record WasRead (old new : SourceView) (bytes : List ℕ) : Type 0 where
+-- what writing a text of which that holds leaves on the sink
+abbrev pub TextLeaves : (List ℕ → Type 0) → (old new : SinkView) → Status → Type 0
+TextLeaves IsText old new Done = IsWritten IsText old new
+TextLeaves IsText old new (Refused fault) = ⊥
+TextLeaves IsText old new Usage = ⊥
+TextLeaves IsText old new ReadFault = ⊥
+TextLeaves IsText old new WriteFault = IsCutOff IsText old new
+TextLeaves IsText old new Memory = new ≡ old
+
+-- how a command reads: at most so many bytes, and what they are or which fault they have
+pub record Reading (A : Type 0) : Type 0 where
+  pub limit : ℕ
+  pub reads : List ℕ → Result A ScriptFault
+
+-- the source was read to its end, and its bytes were that, or had that fault
+pub record ReadsAs {A : Type 0} (reading : Reading A) (old new : SourceView) (result : Result A ScriptFault) : Type 0 where
+  pub bytes : List ℕ
   pub told : IsToldAs old.left bytes
   pub ended : IsToldAs new.left []
+  pub reads : reading.reads bytes ≡ result
 
--- the source was read to its end, and its bytes leave this on the sink
-pub record ReadsAndLeaves (old new : SourceView) (out_old out_new : SinkView) (status : Status) : Type 0 where
-  pub bytes : List ℕ
-  pub read : WasRead old new bytes
-  pub leaves : BytesLeave bytes out_old out_new status
-
--- the source had more than the 4,194,304 bytes of a script, where it tells them; and nothing is appended
-pub record SourceIsTooLong (old : SourceView) (out_old out_new : SinkView) (fault : ScriptFault) : Type 0 where
+-- the source had more bytes than are read, where it tells them
+pub record IsTooLong {A : Type 0} (reading : Reading A) (old : SourceView) (fault : ScriptFault) : Type 0 where
   pub fault_is : fault ≡ TooLong
-  pub long : IsLongerThan 4194304 old.left
-  pub unchanged : out_new ≡ out_old
+  pub long : IsLongerThan reading.limit old.left
 
 -- a fault was found: the source was read to its end and its bytes have it, or it had too many
-abbrev pub SourceIsRefused : (old new : SourceView) → (out_old out_new : SinkView) → ScriptFault → Type 0
-SourceIsRefused old new out_old out_new fault =
-    ReadsAndLeaves old new out_old out_new (Refused fault) ⊎ SourceIsTooLong old out_old out_new fault
+abbrev pub HasFault : {A : Type 0} → Reading A → (old new : SourceView) → ScriptFault → Type 0
+HasFault reading old new fault = ReadsAs reading old new (Err fault) ⊎ IsTooLong reading old fault
 
--- a read failed: the count of the source rose, and nothing is appended
-pub record SourceFailed (old new : SourceView) (out_old out_new : SinkView) : Type 0 where
-  pub rose : HasRisen old.faults new.faults
-  pub unchanged : out_new ≡ out_old
+-- the source was read to its end, and a text of what its bytes were leaves that on the sink
+pub record ReadsAndLeaves {A : Type 0} (reading : Reading A) (IsTextOf : A → List ℕ → Type 0) (old new : SourceView) (out_old out_new : SinkView) (status : Status) : Type 0 where
+  pub thing : A
+  pub read : ReadsAs reading old new (Ok thing)
+  pub leaves : TextLeaves (IsTextOf thing) out_old out_new status
 
--- what the command `turns` leaves on the source and on the sink
-abbrev pub TurnsLeave : (old new : SourceView) → (out_old out_new : SinkView) → Status → Type 0
-TurnsLeave old new out_old out_new Done = ReadsAndLeaves old new out_old out_new Done
-TurnsLeave old new out_old out_new (Refused fault) = SourceIsRefused old new out_old out_new fault
-TurnsLeave old new out_old out_new Usage = ⊥
-TurnsLeave old new out_old out_new ReadFault = SourceFailed old new out_old out_new
-TurnsLeave old new out_old out_new WriteFault = ReadsAndLeaves old new out_old out_new WriteFault
-TurnsLeave old new out_old out_new Memory = out_new ≡ out_old
+-- what a command that reads leaves on the source and on the sink
+abbrev pub Leaves : {A : Type 0} → Reading A → (A → List ℕ → Type 0) → (old new : SourceView) → (out_old out_new : SinkView) → Status → Type 0
+Leaves reading IsTextOf old new out_old out_new Done = ReadsAndLeaves reading IsTextOf old new out_old out_new Done
+Leaves reading IsTextOf old new out_old out_new (Refused fault) = HasFault reading old new fault × (out_new ≡ out_old)
+Leaves reading IsTextOf old new out_old out_new Usage = ⊥
+Leaves reading IsTextOf old new out_old out_new ReadFault = HasRisen old.faults new.faults × (out_new ≡ out_old)
+Leaves reading IsTextOf old new out_old out_new WriteFault = ReadsAndLeaves reading IsTextOf old new out_old out_new WriteFault
+Leaves reading IsTextOf old new out_old out_new Memory = out_new ≡ out_old
 
 -- the whole text was written, or there was no memory
 abbrev pub IsDoneOrMemory : Status → Type 0
@@ -93,3 +95,16 @@ IsRefusedOrMemory fault Usage = ⊥
 IsRefusedOrMemory fault ReadFault = ⊥
 IsRefusedOrMemory fault WriteFault = ⊥
 IsRefusedOrMemory fault Memory = Unit {0}
+
+-- how a command that reads ends: what it leaves; and where no count of faults rose, told bytes that are sound are answered by the whole text, and a fault that they have is answered, unless there is no memory
+pub record Ends {A : Type 0} (reading : Reading A) (IsTextOf : A → List ℕ → Type 0) (old new : SourceView) (out_old out_new : SinkView) (status : Status) : Type 0 where
+  pub leaves : Leaves reading IsTextOf old new out_old out_new status
+  pub complete : (bytes : List ℕ) (thing : A) → old.left ≡ Some bytes → reading.reads bytes ≡ Ok thing
+      → ¬ HasRisen old.faults new.faults → ¬ HasRisen out_old.faults out_new.faults → IsDoneOrMemory status
+  pub refused : (bytes : List ℕ) (fault : ScriptFault) → old.left ≡ Some bytes → reading.reads bytes ≡ Err fault
+      → ¬ HasRisen old.faults new.faults → IsRefusedOrMemory fault status
+
+-- how a command that reads nothing ends: what it leaves; and where no count of faults rose, the whole text is written, unless there is no memory
+pub record EndsAlone (IsText : List ℕ → Type 0) (old new : SinkView) (status : Status) : Type 0 where
+  pub leaves : TextLeaves IsText old new status
+  pub complete : ¬ HasRisen old.faults new.faults → IsDoneOrMemory status

@@ -1,7 +1,28 @@
 -- The words that the program takes.
-use Rattle.std.specs.Prelude.{◌≡◌, List, [], ◌∷◌, map, codes, String, string_bytes}
-use Rattle.std.specs.declared.alloc.Global.{Global}
+use Rattle.std.specs.Prelude.{◌≡◌, ◌≤◌, ℕ, List, [], ◌∷◌, codes, decimal, Option, Some, None}
+use Rattle.fabric_run.specs.declared.words.Command.{Command}
+use Rattle.fabric_run.specs.declared.words.Command.TheVariants.{Turns, Make, Sweep}
 
--- the words are `turns` alone
-abbrev pub AreTurns : List (String Global) → Type 0
-AreTurns words = map string_bytes words ≡ codes "turns" ∷ []
+-- a text is a number of at most 1,000,000 in plain decimals
+abbrev pub NamesNumber : List ℕ → ℕ → Type 0
+NamesNumber text number = (text ≡ decimal number) × (number ≤ 1000000)
+
+-- the words name a command: `turns` alone, or `make` or `sweep` with a number
+abbrev pub Names : List (List ℕ) → Command → Type 0
+Names words Turns = words ≡ codes "turns" ∷ []
+Names words (Make number) = (words ≡ codes "make" ∷ decimal number ∷ []) × (number ≤ 1000000)
+Names words (Sweep number) = (words ≡ codes "sweep" ∷ decimal number ∷ []) × (number ≤ 1000000)
+
+-- the words name no command
+abbrev pub NamesNone : List (List ℕ) → Type 0
+NamesNone words = (command : Command) → ¬ Names words command
+
+-- what is answered is the command that the words name, or that they name none
+abbrev pub ReadsWords : List (List ℕ) → Option Command → Type 0
+ReadsWords words (Some command) = Names words command
+ReadsWords words None = NamesNone words
+
+-- the same of a text and a number
+abbrev pub ReadsNumber : List ℕ → Option ℕ → Type 0
+ReadsNumber text (Some number) = NamesNumber text number
+ReadsNumber text None = (number : ℕ) → ¬ NamesNumber text number

@@ -1,6 +1,8 @@
-//! The program `fabric`: it reads a script from standard input, runs it, and writes the report of the run to standard output.
+//! The program `fabric`: it does what its words ask for, reading from standard input and writing to standard output.
 #![tactic(auto)]
 
+mod making;
+mod reading;
 mod status;
 #[cfg(test)]
 mod tests;
@@ -8,6 +10,7 @@ mod texts;
 mod top;
 mod turns;
 mod words;
+mod writing;
 
 use byte_ports::{Sink, StdSink, StdSource};
 use run_engine::FreeGate;
@@ -39,16 +42,21 @@ fn handed_on<E: Sink>(err: &mut E, status: Status, flushed: io::Result<()>) -> S
     }
 }
 
+/// Tells that there is no memory, and answers the exit status.
+fn no_memory<E: Sink>(err: &mut E) -> ExitCode {
+    ExitCode::from(exit_status(&told(err, Status::Memory)))
+}
+
 fn main(rt: HostRuntime) -> ExitCode {
+    let mut err = StdSink::start(rt.stderr());
     let Ok(words) = words_of(&rt) else {
-        return ExitCode::from(exit_status(&Status::Memory));
+        return no_memory(&mut err);
     };
     let Ok(mut blocks) = BufWriter::with_capacity(rt.alloc(), BLOCK_BYTES, io::writer(&rt)) else {
-        return ExitCode::from(exit_status(&Status::Memory));
+        return no_memory(&mut err);
     };
     let mut source = StdSource::start(rt.reader());
     let mut out = StdSink::start(&mut blocks);
-    let mut err = StdSink::start(rt.stderr());
     let status = fabric_main(
         &rt,
         rt.alloc(),

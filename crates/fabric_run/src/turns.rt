@@ -1,55 +1,56 @@
 //! The command `turns`: a script is read, run by its list of turns, and reported.
 
-ghost use Rattle.fabric_run.specs.Outcome.{BytesLeave, TurnsLeave};
+ghost use Rattle.run_report.specs.Journal.{plain_journal};
+ghost use Rattle.run_report.specs.Named.{NamesItsActors};
+ghost use Rattle.run_report.specs.Text.{report_text};
+ghost use Rattle.fabric_run.specs.Commands.{TurnsEnd};
 ghost use Rattle.fabric_run.specs.Texts.{Tells, status_line};
 
+use crate::reading::script_from;
 use crate::status::Status;
 use crate::texts::told;
-use byte_ports::{ReadRefusal, Sink, Source, Taken, read_up_to};
+use crate::writing::{Text, write_text};
+use byte_ports::{Failed, Sink, Source};
 use run_engine::run_turns;
 use run_report::laws::journals_of_turns_are_legal;
-use run_report::write_report;
-use script_read::{ScriptFault, ScriptRefusal, read_script};
+use run_report::{Journal, write_report};
 use shadow_node::Made;
 use std::alloc::Global;
 
-/// The most bytes that a script has.
-const SCRIPT_BYTES: usize = 4_194_304;
+/// The report of a journal.
+#[derive(Drop)]
+struct Report {
+    journal: Journal,
+}
 
-/// Runs the script that the bytes are, and writes its report.
-fn run_bytes<K: Sink>(alloc: Global, made: &mut Made, bytes: &[u8], out: &mut K) -> Status
-    ensures { BytesLeave bytes.now (K.sink_view out.old) (K.sink_view out.new) result }
-{
-    let script = match read_script(alloc, bytes) {
-        Ok(script) => script,
-        Err(ScriptRefusal::Fault(fault)) => return Status::Refused(fault),
-        Err(ScriptRefusal::Memory) => return Status::Memory,
-    };
-    let Ok(journal) = run_turns(alloc, made, &script) else {
-        return Status::Memory;
-    };
-    journals_of_turns_are_legal();
-    match write_report(&journal, out) {
-        Ok(()) => Status::Done,
-        Err(_) => Status::WriteFault,
+impl Text for Report {
+    ghost text = { λ report. report_text (plain_journal report.journal) };
+
+    ghost is_ready = { λ report. NamesItsActors (plain_journal report.journal) };
+
+    fn write<K: Sink>(&self, out: &mut K) -> Result<(), Failed> {
+        write_report(&self.journal, out)
     }
 }
 
 /// Reads a script from the source, runs it, and writes the report to `out`.
-fn run_source<S: Source, K: Sink>(
+fn answer_turns<S: Source, K: Sink>(
     alloc: Global,
     made: &mut Made,
     source: &mut S,
     out: &mut K,
 ) -> Status
-    ensures { TurnsLeave (S.source_view source.old) (S.source_view source.new) (K.sink_view out.old) (K.sink_view out.new) result }
+    ensures { TurnsEnd (S.source_view source.old) (S.source_view source.new) (K.sink_view out.old) (K.sink_view out.new) result }
 {
-    match read_up_to(alloc, source, SCRIPT_BYTES) {
-        Ok(Taken::Whole(bytes)) => run_bytes(alloc, made, &bytes, out),
-        Ok(Taken::Beyond) => Status::Refused(ScriptFault::TooLong),
-        Err(ReadRefusal::Failed) => Status::ReadFault,
-        Err(ReadRefusal::Memory) => Status::Memory,
-    }
+    let script = match script_from(alloc, source) {
+        Ok(script) => script,
+        Err(status) => return status,
+    };
+    let Ok(journal) = run_turns(alloc, made, &script) else {
+        return Status::Memory;
+    };
+    journals_of_turns_are_legal();
+    write_text(&Report { journal }, out)
 }
 
 /// Reads a script from the source, runs it by its list of turns, and writes the report to `out`.
@@ -63,9 +64,9 @@ pub fn fabric_turns<S: Source, K: Sink, E: Sink>(
     out: &mut K,
     err: &mut E,
 ) -> Status
-    ensures turns { TurnsLeave (S.source_view source.old) (S.source_view source.new) (K.sink_view out.old) (K.sink_view out.new) result }
+    ensures turns { TurnsEnd (S.source_view source.old) (S.source_view source.new) (K.sink_view out.old) (K.sink_view out.new) result }
     ensures err { Tells (E.sink_view err.old) (E.sink_view err.new) (status_line result) }
 {
-    let status = run_source(alloc, made, source, out);
+    let status = answer_turns(alloc, made, source, out);
     told(err, status)
 }

@@ -1,0 +1,84 @@
+-- What each command reads and writes.
+use Rattle.std.specs.Prelude.{◌≡◌, ◌⊎◌, ◌↔◌, ◌≤◌, ℕ, List, [], ◌∷◌, ◌++◌, codes}
+use Rattle.byte_ports.specs.Sources.{SourceView}
+use Rattle.byte_ports.specs.Sinks.{SinkView}
+use Rattle.serde_json.specs.Written.{compact_text}
+use Rattle.tree_revision.specs.Script.{PlainScript}
+use Rattle.script_read.specs.Reads.{script_in}
+use Rattle.script_read.specs.Writing.{json_of}
+use Rattle.script_read.specs.Making.{made_script}
+use Rattle.run_report.specs.Machine.{journal_of_turns}
+use Rattle.run_report.specs.Legal.{IsLegal}
+use Rattle.run_report.specs.Text.{report_text}
+use Rattle.run_report.specs.Summary.{summary_text}
+use Rattle.fabric_run.specs.declared.status.Status.{Status}
+use Rattle.fabric_run.specs.declared.words.Command.{Command}
+use Rattle.fabric_run.specs.declared.words.Command.TheVariants.{Turns, Make, Sweep}
+use Rattle.fabric_run.specs.declared.status.Status.TheVariants.{Usage}
+use Rattle.fabric_run.specs.Words.{Names, NamesNone}
+use Rattle.fabric_run.specs.Outcome.{Reading, Ends, EndsAlone}
+
+-- a script has at most 4,194,304 bytes
+abbrev pub script_reading : Reading PlainScript
+script_reading = record { limit = 4194304; reads = script_in }
+
+-- a text is the report of the journal of the script's turns, and that journal is legal
+pub record IsReportOfTurns (script : PlainScript) (text : List ℕ) : Type 0 where
+  pub legal : IsLegal script (journal_of_turns script)
+  pub tells : text ≡ report_text (journal_of_turns script)
+
+-- how the command `turns` ends
+abbrev pub TurnsEnd : (old new : SourceView) → (out_old out_new : SinkView) → Status → Type 0
+TurnsEnd = Ends script_reading IsReportOfTurns
+
+-- a text is that of the script of a number, to the end of a line
+abbrev pub IsMade : ℕ → List ℕ → Type 0
+IsMade number text = text ≡ compact_text (json_of (made_script number)) ++ codes "\n"
+
+-- how the command `make` ends
+abbrev pub MakeEnds : ℕ → (old new : SinkView) → Status → Type 0
+MakeEnds number = EndsAlone (IsMade number)
+
+-- a text is the summary of the journal of the turns of the script of a number, and that journal is legal
+pub record IsSweep (number : ℕ) (text : List ℕ) : Type 0 where
+  pub legal : IsLegal (made_script number) (journal_of_turns (made_script number))
+  pub tells : text ≡ summary_text number (journal_of_turns (made_script number))
+
+-- how the command `sweep` ends
+abbrev pub SweepEnds : ℕ → (old new : SinkView) → Status → Type 0
+SweepEnds number = EndsAlone (IsSweep number)
+
+-- how a command ends; `make` and `sweep` read nothing
+abbrev pub CommandEnds : Command → (old new : SourceView) → (out_old out_new : SinkView) → Status → Type 0
+CommandEnds Turns old new out_old out_new status = TurnsEnd old new out_old out_new status
+CommandEnds (Make number) old new out_old out_new status = MakeEnds number out_old out_new status × (new ≡ old)
+CommandEnds (Sweep number) old new out_old out_new status = SweepEnds number out_old out_new status × (new ≡ old)
+
+-- the number of a command is at most 1,000,000
+abbrev pub IsWithin : Command → Type 0
+IsWithin Turns = Unit {0}
+IsWithin (Make number) = number ≤ 1000000
+IsWithin (Sweep number) = number ≤ 1000000
+
+-- the words name a command, and it ended
+pub record RunsCommand (words : List (List ℕ)) (old new : SourceView) (out_old out_new : SinkView) (status : Status) : Type 0 where
+  pub command : Command
+  pub names : Names words command
+  pub ends : CommandEnds command old new out_old out_new status
+
+-- the words name no command: that is answered, nothing is read, and nothing is written
+pub record RunsNone (words : List (List ℕ)) (old new : SourceView) (out_old out_new : SinkView) (status : Status) : Type 0 where
+  pub names : NamesNone words
+  pub usage : status ≡ Usage
+  pub source : new ≡ old
+  pub out : out_new ≡ out_old
+
+-- what the program does for its words
+abbrev pub AnswersWords : List (List ℕ) → (old new : SourceView) → (out_old out_new : SinkView) → Status → Type 0
+AnswersWords words old new out_old out_new status = RunsCommand words old new out_old out_new status ⊎ RunsNone words old new out_old out_new status
+
+-- what follows for the status and for the word `turns` alone: `Usage` comes exactly where the words name no command
+pub record Answers (words : List (List ℕ)) (old new : SourceView) (out_old out_new : SinkView) (status : Status) : Type 0 where
+  pub answers : AnswersWords words old new out_old out_new status
+  pub usage : (status ≡ Usage) ↔ NamesNone words
+  pub turns : words ≡ codes "turns" ∷ [] → TurnsEnd old new out_old out_new status
