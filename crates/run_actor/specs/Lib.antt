@@ -1,0 +1,4 @@
+pub mod Actors
+pub mod Actions
+pub mod Event
+pub mod Steps
