@@ -6,9 +6,8 @@ use crate::status::exit_status;
 use crate::top::fabric_main;
 use byte_ports::{MemorySink, MemorySource};
 use run_engine::FreeGate;
-use std::alloc::{AllocError, Global};
+use std::process::Abort;
 use std::sync::Wait;
-use std::test::Fail;
 use std::thread::Threads;
 
 /// An empty tree, and two mounts.
@@ -60,40 +59,6 @@ const OVERTAKEN: &str =
 const OVERTAKEN_REPORT: &str =
     "report 1\nsurface 1\ncommit 1 js 0 complete held 0\ncommit 2 a 0 state held 0\ncommit 3 b 0 state held 0\nactor js\nstep 0 on 1 admitted 1 tries 1\nactor a\nstep 0 on 1 admitted 2 tries 1\nactor b\nstep 0 on 1 admitted 3 tries 2\nmounts 1\ntransaction 0 3 closing\ncreate 7 scroll frame 0 0 100 100 state 2 0 20 width=100 height=100\ninsert 0 7 0\nviews 1\nview 7 in 0 at 0 scroll frame 0 0 100 100 state 2 0 20 width=100 height=100\nend\n";
 
-/// Runs the program on a source that gives at most so many bytes a call, and whose listed calls fail,
-/// and answers its exit status.
-fn status_of<R: Threads + Wait + Sync + AllocGlobal>(
-    rt: &R,
-    word: &str,
-    script: &str,
-    most: usize,
-    fails: Vec<u64>,
-    out: &mut MemorySink,
-    err: &mut MemorySink,
-) -> Result<u8, AllocError>
-    requires { 1 ≤ most }
-{
-    let alloc = rt.alloc();
-    let mut words = Vec::new(alloc);
-    words.push(String::from_str(alloc, word)?)?;
-    let bytes = Vec::from_slice(alloc, script.as_bytes())?;
-    let mut source = MemorySource::start(bytes, fails).pieces(most);
-    let status = fabric_main(rt, alloc, &words, &mut source, out, err, &FreeGate);
-    Ok(exit_status(&status))
-}
-
-/// A sink with that room, whose listed calls fail.
-fn sink(alloc: Global, room: usize, fails: Vec<u64>) -> Result<MemorySink, AllocError> {
-    MemorySink::start(alloc, room, fails)
-}
-
-/// A list of one number.
-fn only(alloc: Global, number: u64) -> Result<Vec<u64>, AllocError> {
-    let mut list = Vec::new(alloc);
-    list.push(number)?;
-    Ok(list)
-}
-
 /// A script of one step on surface 1, of 100 by 100 points.
 const UNKNOWN_WORD: &str =
     "{\"version\":1,\"surfaces\":[{\"id\":1,\"width\":100,\"height\":100}],\"actors\":[{\"name\":\"js\",\"steps\":[{\"do\":\"paint\",\"on\":1}]}],\"turns\":[]}";
@@ -105,10 +70,64 @@ const TWO_MOUNTERS: &str =
 /// A turn of no actor.
 const BAD_TURN: &str = "{\"version\":2,\"surfaces\":[],\"actors\":[],\"turns\":[0]}";
 
+/// Bytes of which each call gives at most `most`, and whose listed calls fail.
+fn source<R: AllocGlobal + Abort>(rt: &R, text: &[u8], most: usize, fails: &[u64]) -> MemorySource
+    requires { 1 ≤ most }
+{
+    let bytes = Vec::from_slice(rt.alloc(), text).expect(rt, "memory for the bytes");
+    let fails = Vec::from_slice(rt.alloc(), fails).expect(rt, "memory for the calls");
+    MemorySource::start(bytes, fails).pieces(most)
+}
+
+/// A sink with that room, of which each call takes at most `most` bytes, and whose listed calls fail.
+fn sink<R: AllocGlobal + Abort>(rt: &R, room: usize, most: usize, fails: &[u64]) -> MemorySink
+    requires { 1 ≤ most }
+{
+    let fails = Vec::from_slice(rt.alloc(), fails).expect(rt, "memory for the calls");
+    let sink = MemorySink::start(rt.alloc(), room, fails).expect(rt, "memory for the room");
+    sink.pieces(most)
+}
+
+/// Runs the program on these words and ports, and answers its exit status.
+fn status_of<R: Threads + Wait + Sync + AllocGlobal + Abort>(
+    rt: &R,
+    texts: &[&str],
+    mut source: MemorySource,
+    out: &mut MemorySink,
+    err: &mut MemorySink,
+) -> u8 {
+    let mut words = Vec::new(rt.alloc());
+    for text in texts {
+        let word = String::from_str(rt.alloc(), text).expect(rt, "memory for a word");
+        words.push(word).expect(rt, "memory for the words");
+    }
+    let status = fabric_main(rt, rt.alloc(), &words, &mut source, out, err, &FreeGate);
+    exit_status(&status)
+}
+
+/// Runs the program where no call fails, holds it to that status and that text on the error stream, and
+/// gives what it wrote.
+fn written<R: Threads + Wait + Sync + AllocGlobal + Abort>(
+    rt: &R,
+    texts: &[&str],
+    text: &[u8],
+    most: usize,
+    status: u8,
+    told: &str,
+) -> MemorySink
+    requires { 1 ≤ most }
+{
+    let mut out = sink(rt, 4_194_304, usize::MAX, &[]);
+    let mut err = sink(rt, 100, usize::MAX, &[]);
+    let source = source(rt, text, most, &[]);
+    assert_eq!(rt; status_of(rt, texts, source, &mut out, &mut err), status);
+    assert_eq!(rt; err.bytes(), told.as_bytes());
+    out
+}
+
 #[test]
-fn small_scripts_print_their_reports(rt: HostRuntime) -> Result<(), Fail> {
-    let alloc = rt.alloc();
-    let cases = [
+fn small_scripts_print_their_reports(rt: HostRuntime) {
+    for (script, report) in [
         (EMPTY_TREE, EMPTY_TREE_REPORT),
         (MOUNT_ALONE, MOUNT_ALONE_REPORT),
         (HOLD_ALONE, HOLD_ALONE_REPORT),
@@ -116,97 +135,209 @@ fn small_scripts_print_their_reports(rt: HostRuntime) -> Result<(), Fail> {
         (STALE, STALE_REPORT),
         (NO_ACTOR, NO_ACTOR_REPORT),
         (OVERTAKEN, OVERTAKEN_REPORT),
-    ];
-    for (script, report) in cases {
+    ] {
         for most in [1, 2, 997] {
-            let mut out = sink(alloc, 65_536, Vec::new(alloc))?;
-            let mut err = sink(alloc, 100, Vec::new(alloc))?;
-            let none = Vec::new(alloc);
-            let status = status_of(&rt, "turns", script, most, none, &mut out, &mut err)?;
-            assert_eq!(rt; status, 0);
-            assert_eq!(rt; out.bytes(), report.as_bytes());
-            assert!(rt; err.bytes().is_empty());
+            let out = written(&rt, &["turns"], script.as_bytes(), most, 0, "");
+            assert_eq!(rt; out.bytes(), report.as_bytes(), "{most} bytes a call");
         }
     }
-    Ok(())
 }
 
 #[test]
-fn a_failed_read_prints_nothing(rt: HostRuntime) -> Result<(), Fail> {
-    let alloc = rt.alloc();
-    let calls = EMPTY_TREE.len() as u64 / 7 + 2;
-    for call in 0..calls {
-        let mut out = sink(alloc, 65_536, Vec::new(alloc))?;
-        let mut err = sink(alloc, 100, Vec::new(alloc))?;
-        let fails = only(alloc, call)?;
-        let status = status_of(&rt, "turns", EMPTY_TREE, 7, fails, &mut out, &mut err)?;
-        assert_eq!(rt; status, 3);
+fn what_is_refused_is_told(rt: HostRuntime) {
+    for (script, line) in [
+        ("", "refused: 2 NotJson\n"),
+        ("{}", "refused: 3 Shape /\n"),
+        (UNKNOWN_WORD, "refused: 3 Shape /actors/0/steps/0/do\n"),
+        (TWO_MOUNTERS, "refused: 11 TwoMounters 7\n"),
+        (BAD_TURN, "refused: 12 BadTurn 0\n"),
+    ] {
+        let out = written(&rt, &["turns"], script.as_bytes(), 997, 1, line);
+        assert!(rt; out.bytes().is_empty());
+        for room in 0..line.len() {
+            let mut out = sink(&rt, 0, 1, &[]);
+            let mut err = sink(&rt, room, 3, &[]);
+            let source = source(&rt, script.as_bytes(), 997, &[]);
+            assert_eq!(rt; status_of(&rt, &["turns"], source, &mut out, &mut err), 1);
+            assert!(rt; line.as_bytes().starts_with(err.bytes()), "room for {room}");
+        }
+    }
+}
+
+#[test]
+fn words_that_name_no_command(rt: HostRuntime) {
+    let cases: [&[&str]; 10] = [
+        &[],
+        &["turns", "5"],
+        &["make"],
+        &["make", "1000001"],
+        &["make", "+1"],
+        &["sweep", "007"],
+        &["sweep", "0", "0"],
+        &["paint"],
+        &["run"],
+        &[""],
+    ];
+    for words in cases {
+        let mut out = sink(&rt, 100, 100, &[]);
+        let mut err = sink(&rt, 100, 100, &[]);
+        let unreadable = source(&rt, b"", 1, &[0]);
+        assert_eq!(rt; status_of(&rt, words, unreadable, &mut out, &mut err), 2);
+        assert!(rt; out.bytes().is_empty());
+        assert_eq!(rt;
+            err.bytes(),
+            "usage: fabric turns | run | make N | sweep N\n".as_bytes()
+        );
+    }
+}
+
+#[test]
+fn a_failed_read_prints_nothing(rt: HostRuntime) {
+    let script = EMPTY_TREE.as_bytes();
+    for call in 0..script.len() as u64 / 7 + 2 {
+        let mut out = sink(&rt, 1_000, 100, &[]);
+        let mut err = sink(&rt, 100, 100, &[]);
+        let source = source(&rt, script, 7, &[call]);
+        assert_eq!(rt; status_of(&rt, &["turns"], source, &mut out, &mut err), 3);
         assert!(rt; out.bytes().is_empty());
         assert_eq!(rt; err.bytes(), "fault: read\n".as_bytes());
     }
-    Ok(())
 }
 
 #[test]
-fn a_failed_write_leaves_a_prefix(rt: HostRuntime) -> Result<(), Fail> {
-    let alloc = rt.alloc();
+fn a_failed_write_leaves_what_was_written(rt: HostRuntime) {
     let report = EMPTY_TREE_REPORT.as_bytes();
-    for room in 0..report.len() {
-        let mut out = sink(alloc, room, Vec::new(alloc))?;
-        let mut err = sink(alloc, 100, Vec::new(alloc))?;
-        let none = Vec::new(alloc);
-        let status = status_of(&rt, "turns", EMPTY_TREE, 997, none, &mut out, &mut err)?;
-        assert_eq!(rt; status, 4);
-        assert_eq!(rt; out.bytes().len(), room);
-        assert!(rt; report.starts_with(out.bytes()));
+    // Each call takes a byte.
+    for call in 0..report.len() {
+        let mut out = sink(&rt, 1_000, 1, &[call as u64]);
+        let mut err = sink(&rt, 100, 100, &[]);
+        let source = source(&rt, EMPTY_TREE.as_bytes(), 997, &[]);
+        assert_eq!(rt; status_of(&rt, &["turns"], source, &mut out, &mut err), 4);
+        assert_eq!(rt; out.bytes(), &report[..call]);
         assert_eq!(rt; err.bytes(), "fault: write\n".as_bytes());
     }
-    Ok(())
+}
+
+/// What a report comes to on one surface.
+#[derive(Clone, Copy, Default)]
+struct Counts {
+    commits: u64,
+    cancelled: u64,
+    transactions: u64,
+    mutations: u64,
+    views: u64,
+}
+
+/// One more.
+fn raise(count: &mut u64) {
+    *count = count.wrapping_add(1);
+}
+
+impl Counts {
+    /// Counts a line of a part on the surface, by its first word.
+    fn count(&mut self, word: &str) {
+        match word {
+            "commit" => raise(&mut self.commits),
+            "transaction" => raise(&mut self.transactions),
+            "view" => raise(&mut self.views),
+            "remove" | "delete" | "create" | "update" | "insert" => raise(&mut self.mutations),
+            _ => {}
+        }
+    }
+}
+
+/// Whether what follows the word of a step says that it was cancelled on the surface of that id.
+fn is_cancelled_on(id: &str, step: &str) -> bool {
+    match step.split_once(" on ") {
+        Some((_, answer)) => answer.starts_with(id) && answer.find(" cancelled ") == Some(id.len()),
+        None => false,
+    }
+}
+
+/// Counts the lines of a report that are of the surface of that id.
+fn counts_on(id: &str, report: &str) -> Counts {
+    let mut counts = Counts::default();
+    let mut is_here = false;
+    let mut left = report;
+    for _ in 0..report.len() {
+        let Some((line, rest)) = left.split_once('\n') else {
+            break;
+        };
+        left = rest;
+        let (word, said) = line.split_once(' ').unwrap_or((line, ""));
+        match word {
+            "surface" | "mounts" | "views" => is_here = said == id,
+            "step" if is_cancelled_on(id, said) => raise(&mut counts.cancelled),
+            _ if is_here => counts.count(word),
+            _ => {}
+        }
+    }
+    counts
+}
+
+/// The line of a summary that has these counts.
+fn summary_line<R: AllocGlobal + Abort>(rt: &R, id: &str, report: &str) -> String {
+    let Counts {
+        commits,
+        cancelled,
+        transactions,
+        mutations,
+        views,
+    } = counts_on(id, report);
+    format!(in rt.alloc();
+        "surface {id} commits {commits} cancelled {cancelled} transactions {transactions} mutations {mutations} views {views}\n"
+    ).expect(rt, "memory for a line")
+}
+
+/// The summary of the run of that number, counted from its report.
+fn summary_of<R: AllocGlobal + Abort>(rt: &R, number: &str, report: &str) -> String {
+    let first = summary_line(rt, "1", report);
+    let second = summary_line(rt, "2", report);
+    format!(in rt.alloc(); "sweep {number}\n{first}{second}end\n").expect(
+        rt,
+        "memory for a summary",
+    )
+}
+
+/// Bytes that are text.
+fn text_of<'a>(rt: &impl Abort, bytes: &'a [u8]) -> &'a str {
+    str::from_utf8(bytes).ok().expect(rt, "text")
+}
+
+/// The surfaces of every script that is made.
+const SURFACES: &str =
+    "\"surfaces\":[{\"height\":480,\"id\":1,\"width\":320},{\"height\":320,\"id\":2,\"width\":480}]";
+
+/// How the script of 0 begins, and the second and the third step in it after the word `do`.
+const FIRST_STEPS: [&str; 3] = [
+    "{\"actors\":[{\"name\":\"js1\",\"steps\":[{\"do\":\"complete\",\"on\":1,\"tree\":[",
+    "\"complete\",\"on\":1,\"tree\":[{\"children\":[{\"keep\":294},{\"keep\":295},",
+    "\"props\",\"on\":1,\"props\":{\"background\":268435456},\"tag\":137},",
+];
+
+#[test]
+fn the_script_of_a_number_is_as_drawn(rt: HostRuntime) {
+    let out = written(&rt, &["make", "0"], b"", 1, 0, "");
+    let text = text_of(&rt, out.bytes());
+    let (script, rest) = text.split_once('\n').expect(&rt, "a newline");
+    assert!(rt; rest.is_empty() && script.find(SURFACES).is_some());
+    let mut left = script;
+    for step in FIRST_STEPS {
+        assert!(rt; left.starts_with(step), "{step}");
+        let (_, later) = left.split_once(",{\"do\":").expect(&rt, "a step more");
+        left = later;
+    }
 }
 
 #[test]
-fn what_is_refused_is_told(rt: HostRuntime) -> Result<(), Fail> {
-    let alloc = rt.alloc();
-    let cases = [
-        ("turns", "", 1, "refused: 2 NotJson\n"),
-        ("turns", "{}", 1, "refused: 3 Shape /\n"),
-        (
-            "turns",
-            UNKNOWN_WORD,
-            1,
-            "refused: 3 Shape /actors/0/steps/0/do\n",
-        ),
-        ("turns", TWO_MOUNTERS, 1, "refused: 11 TwoMounters 7\n"),
-        ("turns", BAD_TURN, 1, "refused: 12 BadTurn 0\n"),
-        (
-            "run",
-            EMPTY_TREE,
-            2,
-            "usage: fabric turns | run | make N | sweep N\n",
-        ),
-    ];
-    for (word, script, want, line) in cases {
-        let mut out = sink(alloc, 65_536, Vec::new(alloc))?;
-        let mut err = sink(alloc, 100, Vec::new(alloc))?;
-        let none = Vec::new(alloc);
-        let status = status_of(&rt, word, script, 997, none, &mut out, &mut err)?;
-        assert_eq!(rt; status, want);
-        assert!(rt; out.bytes().is_empty());
-        assert_eq!(rt; err.bytes(), line.as_bytes());
+fn a_summary_counts_a_report(rt: HostRuntime) {
+    for number in ["0", "1", "1000000"] {
+        let script = written(&rt, &["make", number], b"", 1, 0, "");
+        let report = written(&rt, &["turns"], script.bytes(), 65_536, 0, "");
+        let first = written(&rt, &["sweep", number], b"", 1, 0, "");
+        let second = written(&rt, &["sweep", number], b"", 1, 0, "");
+        assert_eq!(rt; first.bytes(), second.bytes());
+        let summary = summary_of(&rt, number, text_of(&rt, report.bytes()));
+        assert_eq!(rt; text_of(&rt, first.bytes()), summary.as_str());
     }
-    Ok(())
-}
-
-#[test]
-fn a_failing_error_stream_changes_no_status(rt: HostRuntime) -> Result<(), Fail> {
-    let alloc = rt.alloc();
-    for room in 0..19 {
-        let mut out = sink(alloc, 65_536, Vec::new(alloc))?;
-        let mut err = sink(alloc, room, Vec::new(alloc))?;
-        let none = Vec::new(alloc);
-        let status = status_of(&rt, "turns", "", 997, none, &mut out, &mut err)?;
-        assert_eq!(rt; status, 1);
-        assert!(rt; "refused: 2 NotJson\n".as_bytes().starts_with(err.bytes()));
-    }
-    Ok(())
 }
