@@ -4,3 +4,6 @@ pub mod PassSums
 pub mod KeptRules
 pub mod StepsKeepRule
 pub mod SplitsAndJoins
+pub mod InHand
+pub mod Closing
+pub mod PortAnswers

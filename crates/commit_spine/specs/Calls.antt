@@ -1,5 +1,5 @@
 -- What the calls of a spine say, by the kinds of their steps.
-use Rattle.std.specs.Prelude.{◌≡◌, ◌≢◌, ℕ, ◌+◌, ◌-◌, ◌/◌, ◌%◌, ◌<◌, ◌≤◌, List, [], ◌∷◌, ◌++◌, length, Result, Ok, Err, Option, Some, None}
+use Rattle.std.specs.Prelude.{◌≡◌, ◌≢◌, ℕ, ◌+◌, ◌-◌, ◌/◌, ◌%◌, ◌^◌, ◌<◌, ◌≤◌, List, [], ◌∷◌, ◌++◌, length, Result, Ok, Err, Option, Some, None}
 use Rattle.atomic_table.specs.Seated.{TableId}
 use Rattle.tree_revision.specs.Records.{PlainRecord, plain_record}
 use Rattle.tree_revision.specs.Settled.{KeptRevision}
@@ -68,7 +68,7 @@ pub record IsAnsweredLook (old new : KeptByPass) (front : KeptRevision) : Type 0
   pub stands : StandsFor old.mark.first front history
   pub seen : BeginsWith history old.seen
   pub reached : old.floor ≤ length history
-  pub room : length history + old.permits ≤ old.mark.room
+  pub small : length history < 2 ^ 62
   pub keeps : new ≡ after_answered_look (after_take_for_look (after_load_for_look old word) history) history
 
 -- a look took the turn, found no memory and gave the turn back

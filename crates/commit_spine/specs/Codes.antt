@@ -44,7 +44,7 @@ Lists = List PlainRecord × (List PlainRecord × List (ℕ × PlainRecord))
 abbrev coded_lists : Coded Lists
 coded_lists = coded× (coded_list coded_record) (coded× (coded_list coded_record) (coded_list (coded× coded_ℕ coded_record)))
 
-abbrev pub coded_kept_by_pass : Coded KeptByPass
+pub coded_kept_by_pass : Coded KeptByPass
 coded_kept_by_pass =
     code_by (SpineMark × (Lists × (Counts × Turn))) (coded× (mark.the_row).coded (coded× coded_lists (coded× coded_counts coded_turn)))
     (λ k. (k.mark, ((k.seen, (k.joined, k.own)), ((k.permits, (k.floor, (k.busy, (k.looks, (k.loads, k.shares))))), k.turn))))

@@ -6,3 +6,4 @@ pub mod StepTells
 pub mod Codes
 pub mod SpinePasses
 pub mod Calls
+pub mod SpinePorts

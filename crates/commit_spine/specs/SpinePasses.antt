@@ -11,7 +11,7 @@ pub record PassValue : Type 0 where
   pub spine : TableId
   pub kept : KeptByPass
 
-abbrev pub coded_pass : Coded PassValue
+pub coded_pass : Coded PassValue
 coded_pass = code_by (TableId × KeptByPass) (coded× table_id_coded coded_kept_by_pass) (λ p. (p.spine, p.kept)) (λ p. record { spine = p.0; kept = p.1 }) (λ _. refl)
 
 -- between two calls a pass has no turn and nothing in hand, and its numbers are those that it keeps

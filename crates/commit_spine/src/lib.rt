@@ -5,28 +5,35 @@
 //! word without a lock, and no call waits.
 #![tactic(auto)]
 
+ghost use denote.Param.Send.{IsSend};
+
 mod mark;
 mod pass;
 mod rule;
 mod spine;
 mod spine_parts;
+mod spine_port;
 mod steps;
 mod store;
-
-
+#[cfg(test)]
+mod tests;
 
 pub use pass::SpinePass;
 pub use spine_parts::Spine;
+pub use spine_port::SpinePort;
 pub use store::Store;
 
-fn needs_send<T: Send>(_value: &T) {}
+fn needs_send<T: Send>(_value: &T)
+    ensures { IsSend T.row }
+{
+}
 
 fn needs_sync<T: Sync>(_value: &T) {}
 
-/// A spine is shared by threads; passes and stores are handed to them.
+/// A spine is shared by threads; stores are handed to them, and the seats that passes step with.
 pub fn is_shared_by_threads(spine: &Spine, pass: &SpinePass, store: &Store) {
+    needs_send(store);
+    needs_send(&pass.seat);
     needs_send(spine);
     needs_sync(spine);
-    needs_send(pass);
-    needs_send(store);
 }

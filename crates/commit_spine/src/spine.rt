@@ -1,6 +1,6 @@
 //! The history that threads share, and its calls.
 
-ghost use Rattle.std.specs.Prelude.{◌≡◌, ◌^◌, ◌<◌, ◌≤◌, ◌∷◌, ◌++◌, [], IfOk, Some};
+ghost use Rattle.std.specs.Prelude.{◌≡◌, ◌^◌, ◌<◌, ◌≤◌, ◌∷◌, ◌++◌, [], length, IfOk, Some};
 ghost use Rattle.tree_revision.specs.Records.{plain_record};
 ghost use Rattle.tree_revision.specs.Stands.{StandsFor};
 ghost use Rattle.tree_revision.specs.Ports.{BeginsWith};
@@ -41,8 +41,9 @@ impl Spine {
             room,
             seats,
         };
+        let records = Vec::with_capacity(alloc, room as usize)?;
         let store = Store {
-            records: Vec::with_capacity(alloc, room as usize)?,
+            records,
             front: first,
         };
         let mut slots = Vec::with_capacity(alloc, 1)?;
@@ -98,6 +99,7 @@ impl Spine {
     pub fn try_look(&self, pass: &mut SpinePass) -> Result<Revision, LookRefusal>
         requires spine { IsPassOf self.now pass.old }
         ensures spine { pass.new.spine ≡ pass.old.spine }
+        ensures reached { length pass.new.kept.seen ≤ pass.new.kept.floor }
         ensures answer { IsLookOf pass.old.kept pass.new.kept result }
     {
         let Some(number) = self.take_turn(&mut pass.seat) else {
@@ -129,6 +131,7 @@ impl Spine {
         requires permit { 1 ≤ pass.old.kept.permits }
         requires stands { StandsFor pass.old.kept.mark.first next (pass.old.kept.seen ++ plain_record entry ∷ []) }
         ensures spine { pass.new.spine ≡ pass.old.spine }
+        ensures reached { length pass.new.kept.seen ≤ pass.new.kept.floor }
         ensures answer { IsOfferOf pass.old.kept pass.new.kept entry next result }
     {
         if let Err(word) = self.take_for_offer(&mut pass.seat, pass.number) {

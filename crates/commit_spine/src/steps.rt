@@ -106,12 +106,12 @@ impl Spine {
         ensures seat { (seat.new.table_id ≡ seat.old.table_id) × (seat.new.id ≡ seat.old.id) }
         ensures kept { seat.new.me ≡ (after_admitted_offer seat.old.me.0 seat.old.me.0.seen (plain_record entry), []) }
     {
-        let mut store = self.lift(seat);
-        let Ok(()) = store.records.push(entry) else {
+        let mut taken = self.lift(seat);
+        let Ok(()) = taken.records.push(entry) else {
             unreachable!()
         };
-        store.front = next;
-        self.lay(seat, store);
+        taken.front = next;
+        self.lay(seat, taken);
         self.table.shared.store::<AdmittedOffer>(seat, ONLY, 2 * number + 2);
     }
 
