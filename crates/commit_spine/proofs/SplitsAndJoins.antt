@@ -207,10 +207,10 @@ module _ (mark : SpineMark) where
       λ other u differs there. (rule.each_pass_fits other u there).without_shares (others_have_none (λ (v : KeptByPass). v.shares) state.views seat kept at whole other u differs there) in
       let no_turns : (other : ℕ) (u : KeptByPass) → get_elem? state.views other ≡ maybe.some u → u.turn ≡ no_turn =
       λ other u there. dite (ℕ_discrete other seat)
-          (λ is. ap (λ (v : KeptByPass). v.turn) (maybe.some-injective u kept (sym there ∙ (ap (get_elem? state.views) is ∙ at))) ∙ rests)
-          (λ differs. (spent other u differs there).turn) in
+      (λ is. ap (λ (v : KeptByPass). v.turn) (maybe.some-injective u kept (sym there ∙ (ap (get_elem? state.views) is ∙ at))) ∙ rests)
+      (λ differs. (spent other u differs there).turn) in
       let free = free_without_turns rule.history rule.holder state.views rule.one_pass_has_the_turn
-          (λ other u there. subst (HasTurn rule.history rule.holder other) (no_turns other u there) (rule.each_pass_fits other u there).has_turn) in
+      (λ other u there. subst (HasTurn rule.history rule.holder other) (no_turns other u there) (rule.each_pass_fits other u there).has_turn) in
       let home = free_home mark state.homes rule.history rule.holder rule.store_stands_for_it free in
       let slot = home.1.0 in
       let permits = one_has_all (λ (u : KeptByPass). u.permits) state.views seat kept at (λ other u differs there. (spent other u differs there).permits) in (

@@ -115,37 +115,37 @@ module _ (mark : SpineMark) where
       let is = found_word mark state rule in
       exchanged word old new (Owed state seat me (take_for_look_tells (step slots 0 old new maybe.none) me))
       (λ found. let bit : turn_bit rule.holder ≡ 0 = free_where_even mark state rule (omega arith) in
-          let free = free_home mark state.homes rule.history rule.holder rule.store_stands_for_it bit in
-          let slot = free.1.0 in
-          let same : me.0.mark ≡ mark = fits.is_of_this_spine some in
-          let history = rule.history in (
-            after_take_for_look me.0 history,
-            takes 0 slot,
-            ap (λ (homes : List (maybe.Option Slot)). get_elem? homes 0) free.1.1,
-            rule_after_take mark state rule seat me.0 (after_take_for_look me.0 history) new slot at free.0 (omega arith) free.1.1 record {
-              is_of_this_spine = fits.is_of_this_spine;
-              seen_is_a_prefix = fits.seen_is_a_prefix;
-              joined_is_a_prefix = fits.joined_is_a_prefix;
-              seen_is_reached = fits.seen_is_a_prefix.within;
-              floor_is_reached = omega arith;
-              own_records_stand = fits.own_records_stand;
-              has_turn = (refl, refl);
-              without_shares = λ none. absurd (omega arith);
-            } refl refl refl,
-            (
-              λ _. record {
-                history = history;
-                slot = slot;
-                keeps = refl;
-                store = subst (λ (m : SpineMark). HasStoreOf m slot history) (sym same) free.1.2;
-                word = omega arith;
-                seen = fits.seen_is_a_prefix;
-                reached = fits.floor_is_reached;
-                room = subst (λ (m : SpineMark). length history + me.0.permits ≤ m.room) (sym same) (room_for_permits mark state rule seat me.0 at);
-              },
-              λ lost. absurd (lost found),
-            ),
-          ))
+      let free = free_home mark state.homes rule.history rule.holder rule.store_stands_for_it bit in
+      let slot = free.1.0 in
+      let same : me.0.mark ≡ mark = fits.is_of_this_spine some in
+      let history = rule.history in (
+        after_take_for_look me.0 history,
+        takes 0 slot,
+        ap (λ (homes : List (maybe.Option Slot)). get_elem? homes 0) free.1.1,
+        rule_after_take mark state rule seat me.0 (after_take_for_look me.0 history) new slot at free.0 (omega arith) free.1.1 record {
+          is_of_this_spine = fits.is_of_this_spine;
+          seen_is_a_prefix = fits.seen_is_a_prefix;
+          joined_is_a_prefix = fits.joined_is_a_prefix;
+          seen_is_reached = fits.seen_is_a_prefix.within;
+          floor_is_reached = omega arith;
+          own_records_stand = fits.own_records_stand;
+          has_turn = (refl, refl);
+          without_shares = λ none. absurd (omega arith);
+        } refl refl refl,
+        (
+          λ _. record {
+            history = history;
+            slot = slot;
+            keeps = refl;
+            store = subst (λ (m : SpineMark). HasStoreOf m slot history) (sym same) free.1.2;
+            word = omega arith;
+            seen = fits.seen_is_a_prefix;
+            reached = fits.floor_is_reached;
+            room = subst (λ (m : SpineMark). length history + me.0.permits ≤ m.room) (sym same) (room_for_permits mark state rule seat me.0 at);
+          },
+          λ lost. absurd (lost found),
+        ),
+      ))
       (λ lost. (
         after_lost_look me.0 word,
         keeps,
@@ -165,37 +165,37 @@ module _ (mark : SpineMark) where
       let is = found_word mark state rule in
       exchanged word old new (Owed state seat me (take_for_offer_tells (step slots 0 old new maybe.none) me))
       (λ found. let bit : turn_bit rule.holder ≡ 0 = free_where_even mark state rule (omega arith) in
-          let free = free_home mark state.homes rule.history rule.holder rule.store_stands_for_it bit in
-          let slot = free.1.0 in
-          let same : me.0.mark ≡ mark = fits.is_of_this_spine some in
-          let whole : me.0.seen ≡ rule.history = begins_whole rule.history me.0.seen fits.seen_is_a_prefix (omega arith) in
-          let store : HasStoreOf me.0.mark slot rule.history = subst (λ (m : SpineMark). HasStoreOf m slot rule.history) (sym same) free.1.2 in
-          let room : length rule.history + me.0.permits ≤ me.0.mark.room =
-          subst (λ (m : SpineMark). length rule.history + me.0.permits ≤ m.room) (sym same) (room_for_permits mark state rule seat me.0 at) in (
-            after_take_for_offer me.0 me.0.seen,
-            takes 0 slot,
-            ap (λ (homes : List (maybe.Option Slot)). get_elem? homes 0) free.1.1,
-            rule_after_take mark state rule seat me.0 (after_take_for_offer me.0 me.0.seen) new slot at free.0 (omega arith) free.1.1 record {
-              is_of_this_spine = fits.is_of_this_spine;
-              seen_is_a_prefix = fits.seen_is_a_prefix;
-              joined_is_a_prefix = fits.joined_is_a_prefix;
-              seen_is_reached = fits.seen_is_reached;
-              floor_is_reached = fits.floor_is_reached;
-              own_records_stand = fits.own_records_stand;
-              has_turn = (refl, whole);
-              without_shares = λ none. absurd (omega arith);
-            } refl refl refl,
-            (
-              λ _. record {
-                slot = slot;
-                keeps = refl;
-                store = subst (HasStoreOf me.0.mark slot) (sym whole) store;
-                reached = omega (arith, fits.floor_is_reached, ap length whole);
-                room = subst (λ (seen : List PlainRecord). length seen + me.0.permits ≤ me.0.mark.room) (sym whole) room;
-              },
-              λ lost. absurd (lost found),
-            ),
-          ))
+      let free = free_home mark state.homes rule.history rule.holder rule.store_stands_for_it bit in
+      let slot = free.1.0 in
+      let same : me.0.mark ≡ mark = fits.is_of_this_spine some in
+      let whole : me.0.seen ≡ rule.history = begins_whole rule.history me.0.seen fits.seen_is_a_prefix (omega arith) in
+      let store : HasStoreOf me.0.mark slot rule.history = subst (λ (m : SpineMark). HasStoreOf m slot rule.history) (sym same) free.1.2 in
+      let room : length rule.history + me.0.permits ≤ me.0.mark.room =
+      subst (λ (m : SpineMark). length rule.history + me.0.permits ≤ m.room) (sym same) (room_for_permits mark state rule seat me.0 at) in (
+        after_take_for_offer me.0 me.0.seen,
+        takes 0 slot,
+        ap (λ (homes : List (maybe.Option Slot)). get_elem? homes 0) free.1.1,
+        rule_after_take mark state rule seat me.0 (after_take_for_offer me.0 me.0.seen) new slot at free.0 (omega arith) free.1.1 record {
+          is_of_this_spine = fits.is_of_this_spine;
+          seen_is_a_prefix = fits.seen_is_a_prefix;
+          joined_is_a_prefix = fits.joined_is_a_prefix;
+          seen_is_reached = fits.seen_is_reached;
+          floor_is_reached = fits.floor_is_reached;
+          own_records_stand = fits.own_records_stand;
+          has_turn = (refl, whole);
+          without_shares = λ none. absurd (omega arith);
+        } refl refl refl,
+        (
+          λ _. record {
+            slot = slot;
+            keeps = refl;
+            store = subst (HasStoreOf me.0.mark slot) (sym whole) store;
+            reached = omega (arith, fits.floor_is_reached, ap length whole);
+            room = subst (λ (seen : List PlainRecord). length seen + me.0.permits ≤ me.0.mark.room) (sym whole) room;
+          },
+          λ lost. absurd (lost found),
+        ),
+      ))
       (λ lost. (
         after_lost_offer me.0 word,
         keeps,
@@ -288,13 +288,13 @@ module _ (mark : SpineMark) where
       let as_long : length history ≡ length rule.history = ap length whole in
       dite (ℕ_discrete last number)
       (λ is_last. let one : one_if (last == number) ≡ 1 = ap one_if (eq-eqb last number is_last) in
-          let none : sum_by times state.views ≡ 0 =
-          sum_of_none times state.views (λ other u there. let fit = rule.each_pass_fits other u there in
-              none_beyond u.seen u.own number fit.own_records_stand (omega (arith, fit.seen_is_a_prefix.within))) in
-          omega (arith, sum, added, one, none))
+      let none : sum_by times state.views ≡ 0 =
+      sum_of_none times state.views (λ other u there. let fit = rule.each_pass_fits other u there in
+      none_beyond u.seen u.own number fit.own_records_stand (omega (arith, fit.seen_is_a_prefix.within))) in
+      omega (arith, sum, added, one, none))
       (λ before. let none : one_if (last == number) ≡ 0 = ap one_if (ne_eqb last number before) in
-          let once = rule.own_records_stand_once number low (omega arith) in
-          omega (arith, sum, added, none, once))
+      let once = rule.own_records_stand_once number low (omega arith) in
+      omega (arith, sum, added, none, once))
 
   pub admits_offer : (slots seat word : ℕ) (me : Hand) (history : List PlainRecord) (slot : Slot) (entry : PlainRecord)
       → me.0.turn ≡ offer_turn history → me.0.seen ≡ history → me.1 ≡ (0, slot) ∷ [] → 0 < me.0.shares → 1 ≤ me.0.permits

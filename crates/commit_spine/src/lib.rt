@@ -25,8 +25,7 @@ pub use store::Store;
 
 fn needs_send<T: Send>(_value: &T)
     ensures { IsSend T.row }
-{
-}
+{}
 
 fn needs_sync<T: Sync>(_value: &T) {}
 

@@ -76,7 +76,9 @@ impl Spine {
         ensures seat { (seat.new.table_id ≡ seat.old.table_id) × (seat.new.id ≡ seat.old.id) }
         ensures kept { seat.new.me ≡ (after_answered_look seat.old.me.0 (history_kept seat.old.me.0.turn), []) }
     {
-        self.table.shared.store::<AnsweredLook>(seat, ONLY, 2 * number);
+        self.table
+            .shared
+            .store::<AnsweredLook>(seat, ONLY, 2 * number);
     }
 
     /// Gives the turn back behind a look that found no memory.
@@ -87,7 +89,9 @@ impl Spine {
         ensures seat { (seat.new.table_id ≡ seat.old.table_id) × (seat.new.id ≡ seat.old.id) }
         ensures kept { seat.new.me ≡ (after_look_in_vain seat.old.me.0, []) }
     {
-        self.table.shared.store::<LookInVain>(seat, ONLY, 2 * number);
+        self.table
+            .shared
+            .store::<LookInVain>(seat, ONLY, 2 * number);
     }
 
     /// Puts the record and the revision after it into the store in hand, and gives the turn back
@@ -112,7 +116,9 @@ impl Spine {
         };
         taken.front = next;
         self.lay(seat, taken);
-        self.table.shared.store::<AdmittedOffer>(seat, ONLY, 2 * number + 2);
+        self.table
+            .shared
+            .store::<AdmittedOffer>(seat, ONLY, 2 * number + 2);
     }
 
     /// Splits a seat in two.

@@ -167,10 +167,24 @@ fn two_passes_have_one_history(rt: HostRuntime) -> Result<(), Fail> {
     held.stands_for_none();
     let (spine, mut a) = Spine::start(alloc, 2, 2, held.share()?)?;
     let mut b = spine.split(&mut a, 1);
-    let (a_looked, a_entry, a_next) =
-        prepared(alloc, &mut made, &spine, &mut a, &held, 0, Op::Stop)?;
-    let (b_looked, b_entry, b_next) =
-        prepared(alloc, &mut made, &spine, &mut b, &held, 1, Op::Suspend)?;
+    let (a_looked, a_entry, a_next) = prepared(
+        alloc,
+        &mut made,
+        &spine,
+        &mut a,
+        &held,
+        0,
+        Op::Stop,
+    )?;
+    let (b_looked, b_entry, b_next) = prepared(
+        alloc,
+        &mut made,
+        &spine,
+        &mut b,
+        &held,
+        1,
+        Op::Suspend,
+    )?;
     assert_eq!(rt; (a_looked, b_looked), (0, 0));
     let Ok(1) = spine.try_offer(&mut a, a_entry, a_next) else {
         return Err(Unexpected)?;

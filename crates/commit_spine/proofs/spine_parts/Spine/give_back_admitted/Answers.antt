@@ -10,7 +10,7 @@ store-requires c = (
   search rules,
   search rules,
   may_admit c.args.seat.now.me _ _ _ _ _ c.args.entry c.requires.offer c.lift-taken.ensures.lifted c.lift-taken.ensures.empty c.lay.ensures.laid
-  c.in-Ok.ensures.items (search rules) c.requires.next _ _ _ _ refl,
+      c.in-Ok.ensures.items (search rules) c.requires.next _ _ _ _ refl,
 )
 
 pub returns-clause-kept : goal.returns-clause-kept
