@@ -30,6 +30,7 @@ fn needs_send<T: Send>(_value: &T)
 fn needs_sync<T: Sync>(_value: &T) {}
 
 /// A spine is shared by threads; stores are handed to them, and the seats that passes step with.
+/// That a whole pass may be handed to a thread is not shown.
 pub fn is_shared_by_threads(spine: &Spine, pass: &SpinePass, store: &Store) {
     needs_send(store);
     needs_send(&pass.seat);
