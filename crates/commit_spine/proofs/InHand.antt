@@ -1,15 +1,14 @@
 -- The steps of a pass that has the store in hand.
-use Rattle.std.proofs.Common.{◌≡◌, ℕ, ◌+◌, ◌*◌, ◌^◌, ◌<◌, ◌≤◌, List, [], ◌∷◌, ◌++◌, length, map, Option, Some, None, vec_capacity, arith, refl, ap, sym, ◌∙◌, subst, length-append}
+use Rattle.std.proofs.Common.{◌≡◌, ℕ, ◌+◌, ◌*◌, ◌^◌, ◌<◌, ◌≤◌, List, [], ◌∷◌, ◌++◌, length, map, Some, None, vec_capacity, arith, refl, ap, sym, ◌∙◌, subst}
 use Rattle.std.proofs.lemmas.List.{map-append, length-map}
 use mathlib.Core.Option as maybe
 use Rattle.atomic_table.specs.Table.{Allows, step, opening}
 use Rattle.tree_revision.specs.Records.{PlainRecord, plain_record}
-use Rattle.tree_revision.specs.Settled.{KeptRevision}
 use Rattle.tree_revision.specs.Stands.{StandsFor}
 use Rattle.tree_revision.specs.declared.record.Record.{Record}
 use Rattle.commit_spine.specs.declared.mark.SpineMark.{SpineMark}
 use Rattle.commit_spine.specs.declared.store.Store.{Store}
-use Rattle.commit_spine.specs.Passes.{KeptByPass, fresh_pass, offer_turn, history_kept}
+use Rattle.commit_spine.specs.Passes.{fresh_pass, history_kept}
 use Rattle.commit_spine.specs.Stores.{Slot, IsStoreOf, HasStoreOf}
 use Rattle.commit_spine.specs.StepKinds.{after_admitted_offer}
 use Rattle.commit_spine.specs.SpineRule.{SpineHolds}

@@ -1,5 +1,5 @@
 -- What a step of one seat has to show, so that the rule of a spine holds after it.
-use Rattle.std.proofs.Common.{◌≡◌, ◌≢◌, ℕ, ◌+◌, ◌/◌, ◌%◌, ◌<◌, ◌≤◌, List, [], ◌∷◌, length, set, slice_index, Option, Some, None, sum_by, arith, refl, ap, sym, ◌∙◌, subst, length-set, ⊎_elim}
+use Rattle.std.proofs.Common.{◌≡◌, ◌≢◌, ℕ, ◌+◌, ◌/◌, ◌%◌, ◌<◌, ◌≤◌, List, [], ◌∷◌, length, set, slice_index, Option, Some, None, arith, refl, ap, sym, ◌∙◌, subst, length-set, ⊎_elim}
 use Rattle.std.proofs.lemmas.Option.{none-some, same_Some}
 use mathlib.Core.Option as maybe
 use lib.ListN.{get_elem?}
@@ -10,7 +10,7 @@ use Rattle.tree_revision.specs.Ports.{BeginsWith}
 use Rattle.commit_spine.specs.declared.mark.SpineMark.{SpineMark}
 use Rattle.commit_spine.specs.Passes.{Turn, no_turn, look_turn, offer_turn, KeptByPass, times_own}
 use Rattle.commit_spine.specs.Stores.{Slot, HasStoreOf}
-use Rattle.commit_spine.specs.SpineRule.{SpineState, turn_bit, word_of, IsSeat, HasHome, HasTurn, AllStandIn, IsSpent, FitsHistory, StandOnce, SpineHolds}
+use Rattle.commit_spine.specs.SpineRule.{SpineState, turn_bit, word_of, IsSeat, HasHome, HasTurn, FitsHistory, StandOnce, SpineHolds}
 use Rattle.commit_spine.proofs.Begins.{begins_through}
 use Rattle.commit_spine.proofs.PassSums.{seat_is_below, sum_after_set, one_is_within}
 

@@ -1,5 +1,5 @@
 -- Sums of a number over the passes of a spine.
-use Rattle.std.proofs.Common.{◌≡◌, ◌≢◌, ℕ, zero, suc, ◌+◌, ◌<◌, ◌≤◌, List, [], ◌∷◌, length, set, get_or, sum_by, arith, refl, ap, sym, ◌∙◌, subst, suc-ne-zero}
+use Rattle.std.proofs.Common.{◌≡◌, ◌≢◌, ℕ, zero, suc, ◌+◌, ◌<◌, ◌≤◌, List, [], ◌∷◌, length, set, get_or, sum_by, arith, refl, ap, sym, ◌∙◌, suc-ne-zero}
 use Rattle.std.proofs.lemmas.List.Sums.{sum_by-cons, sum_by-set, get_or-le-sum_by}
 use mathlib.Core.Option as maybe
 use lib.ListN.{get_elem?}

@@ -1,7 +1,7 @@
 -- What a port says of a look and an offer, from what a spine says of them.
-use Rattle.std.proofs.Common.{◌≡◌, ◌==◌, ℕ, ◌+◌, ◌≤◌, List, [], ◌∷◌, ◌++◌, length, cond, Bool, true, Some, None, Result, Ok, Err, arith, refl, ap, ap₂, sym, ◌∙◌, subst, length-append, eq-eqb}
+use Rattle.std.proofs.Common.{◌≡◌, ◌==◌, ℕ, ◌+◌, ◌≤◌, List, [], ◌∷◌, ◌++◌, length, cond, Bool, Result, Ok, Err, arith, refl, ap, ap₂, sym, ◌∙◌, subst, length-append, eq-eqb}
 use Rattle.std.proofs.lemmas.Option.{none-some}
-use base.Stored.{Gv, gnil, gnum, gcons}
+use base.Stored.{gnum, gcons}
 use Rattle.atomic_table.specs.Seated.{TableId, table_id_coded}
 use Rattle.tree_revision.specs.Records.{PlainRecord, plain_record}
 use Rattle.tree_revision.specs.Settled.{KeptRevision}

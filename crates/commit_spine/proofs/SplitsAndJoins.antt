@@ -1,5 +1,5 @@
 -- The opening of a spine, a split, a join and the end of a spine.
-use Rattle.std.proofs.Common.{◌≡◌, ◌≢◌, ℕ, zero, suc, ◌+◌, ◌-◌, ◌^◌, ◌<◌, ◌≤◌, ◌⊎◌, inl, inr, List, [], ◌∷◌, ◌++◌, length, set, max, Option, Some, None, sum_by, arith, refl, ap, sym, ◌∙◌, subst, length-append, length-set, ⊎_elim}
+use Rattle.std.proofs.Common.{◌≡◌, ◌≢◌, ℕ, zero, suc, ◌+◌, ◌^◌, ◌<◌, ◌≤◌, ◌⊎◌, inl, inr, List, [], ◌∷◌, ◌++◌, length, set, Option, Some, None, sum_by, arith, refl, ap, sym, ◌∙◌, subst, length-append, length-set, ⊎_elim}
 use Rattle.std.proofs.lemmas.Option.{none-some, same_Some}
 use Rattle.std.proofs.lemmas.List.Sums.{sum_by_push}
 use mathlib.Core.Option as maybe
@@ -14,11 +14,11 @@ use Rattle.commit_spine.specs.declared.mark.SpineMark.{SpineMark}
 use Rattle.commit_spine.specs.Passes.{no_turn, KeptByPass, times_own, fresh_pass, joined_away}
 use Rattle.commit_spine.specs.Stores.{Slot, HasStoreOf}
 use Rattle.commit_spine.specs.StepKinds.{longer_of, after_split, split_off, after_join}
-use Rattle.commit_spine.specs.SpineRule.{SpineState, turn_bit, IsSeat, HasHome, HasTurn, IsSpent, FitsHistory, SpineHolds}
+use Rattle.commit_spine.specs.SpineRule.{SpineState, turn_bit, IsSeat, HasTurn, IsSpent, FitsHistory, SpineHolds}
 use Rattle.commit_spine.specs.StepTells.{IsEndOf}
-use Rattle.commit_spine.proofs.Begins.{begins_with_itself, JoinedIn, joined_in, length_of_longer}
+use Rattle.commit_spine.proofs.Begins.{begins_with_itself, joined_in, length_of_longer}
 use Rattle.commit_spine.proofs.OwnRecords.{stand_later, stand_both, times_in_both}
-use Rattle.commit_spine.proofs.PassSums.{seat_is_below, seat_is_there, sum_after_set, sum_after_join, others_have_none, one_has_all}
+use Rattle.commit_spine.proofs.PassSums.{seat_is_there, sum_after_set, sum_after_join, others_have_none, one_has_all}
 use Rattle.commit_spine.proofs.KeptRules.{free_home}
 
 more_seats : (holder : Option ℕ) (count more : ℕ) → count ≤ more → IsSeat holder count → IsSeat holder more

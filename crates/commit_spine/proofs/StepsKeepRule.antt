@@ -1,27 +1,27 @@
 -- Each kind of step keeps the rule of a spine, and tells what it is to tell.
-use Rattle.std.proofs.Common.{◌≡◌, ◌≢◌, ℕ, ◌+◌, ◌-◌, ◌/◌, ◌%◌, ◌<◌, ◌≤◌, ◌==◌, eqb, List, [], ◌∷◌, ◌++◌, length, map, set, slice_index, Option, Some, None, sum_by, arith, refl, ap, sym, ◌∙◌, subst, length-append, eq-eqb, ne_eqb}
-use Rattle.std.proofs.lemmas.Option.{none-some, same_Some}
+use Rattle.std.proofs.Common.{◌≡◌, ℕ, ◌+◌, ◌%◌, ◌<◌, ◌≤◌, ◌==◌, eqb, List, [], ◌∷◌, ◌++◌, length, set, slice_index, Option, Some, None, sum_by, arith, refl, ap, sym, ◌∙◌, subst, length-append, eq-eqb, ne_eqb}
+use Rattle.std.proofs.lemmas.Option.{none-some}
 use Rattle.std.proofs.lemmas.List.{same_from_push}
 use mathlib.Core.Option as maybe
 use mathlib.Core.Logic.{dite}
 use native.Mathlib.Decide.{ℕ_discrete}
 use lib.ListN.{get_elem?}
 use prog.Atomic.{either}
-use Rattle.atomic_table.specs.Table.{Act, Step, step, keeps, takes, gives, Valid, Allows, stepped, carried_after, put_back, rest}
+use Rattle.atomic_table.specs.Table.{Act, step, keeps, takes, gives, Valid, Allows, stepped, carried_after, put_back, rest}
 use Rattle.atomic_table.proofs.Lists.{exchanged}
-use Rattle.tree_revision.specs.Records.{PlainRecord, plain_record}
+use Rattle.tree_revision.specs.Records.{PlainRecord}
 use Rattle.tree_revision.specs.Lawful.{IsLawful}
 use Rattle.tree_revision.specs.Ports.{BeginsWith}
 use Rattle.commit_spine.specs.declared.mark.SpineMark.{SpineMark}
-use Rattle.commit_spine.specs.Passes.{Turn, no_turn, look_turn, offer_turn, history_kept, KeptByPass, times_own}
+use Rattle.commit_spine.specs.Passes.{Turn, look_turn, offer_turn, history_kept, KeptByPass, times_own}
 use Rattle.commit_spine.specs.Stores.{Slot, HasStoreOf}
 use Rattle.commit_spine.specs.StepKinds.{after_load, after_load_for_look, after_take_for_look, after_lost_look, after_take_for_offer, after_lost_offer, after_answered_look, after_look_in_vain, after_admitted_offer}
-use Rattle.commit_spine.specs.SpineRule.{SpineState, turn_bit, word_of, HasTurn, FitsHistory, StandOnce, SpineHolds}
-use Rattle.commit_spine.specs.StepTells.{Hand, FindsWord, IsWithinMark, load_tells, load_for_look_tells, take_for_look_tells, take_for_offer_tells, answered_look_tells, look_in_vain_tells, admitted_offer_tells, compare_tells}
+use Rattle.commit_spine.specs.SpineRule.{SpineState, turn_bit, word_of, HasTurn, StandOnce, SpineHolds}
+use Rattle.commit_spine.specs.StepTells.{Hand, load_tells, load_for_look_tells, take_for_look_tells, take_for_offer_tells, answered_look_tells, look_in_vain_tells, admitted_offer_tells, compare_tells}
 use Rattle.commit_spine.proofs.Begins.{begins_with_itself, more_begins, begins_through, begins_whole, begins_among}
 use Rattle.commit_spine.proofs.OwnRecords.{one_if, added_stands, stand_later, stand_both, none_beyond, times_in_both}
 use Rattle.commit_spine.proofs.PassSums.{sum_after_set, one_is_within, sum_of_none}
-use Rattle.commit_spine.proofs.KeptRules.{counted, bit_is_small, same_once, found_word, found_number, free_where_even, rule_after, rule_after_find, rule_after_take, rule_after_give, free_home, room_for_permits}
+use Rattle.commit_spine.proofs.KeptRules.{counted, same_once, found_word, found_number, free_where_even, rule_after, rule_after_find, rule_after_take, rule_after_give, free_home, room_for_permits}
 
 -- a slot has the store of one list alone
 one_store : (mark : SpineMark) (slot : Slot) (us vs : List PlainRecord) → HasStoreOf mark slot us → HasStoreOf mark slot vs → us ≡ vs

@@ -1,5 +1,5 @@
 -- What the calls of a spine say, by the kinds of their steps.
-use Rattle.std.specs.Prelude.{◌≡◌, ◌≢◌, ℕ, ◌+◌, ◌-◌, ◌/◌, ◌%◌, ◌^◌, ◌<◌, ◌≤◌, List, [], ◌∷◌, ◌++◌, length, Result, Ok, Err, Option, Some, None}
+use Rattle.std.specs.Prelude.{◌≡◌, ◌≢◌, ℕ, ◌+◌, ◌/◌, ◌%◌, ◌^◌, ◌<◌, ◌≤◌, List, [], ◌∷◌, length, Result, Ok, Err, Option, Some, None}
 use Rattle.atomic_table.specs.Seated.{TableId}
 use Rattle.tree_revision.specs.Records.{PlainRecord, plain_record}
 use Rattle.tree_revision.specs.Settled.{KeptRevision}
@@ -11,7 +11,7 @@ use Rattle.tree_revision.specs.declared.port.LookRefusal.TheVariants.{Busy as Lo
 use Rattle.tree_revision.specs.declared.port.OfferRefusal.{OfferRefusal}
 use Rattle.tree_revision.specs.declared.port.OfferRefusal.TheVariants.{Busy as OfferBusy, Behind}
 use Rattle.commit_spine.specs.declared.spine_parts.Spine.{Spine}
-use Rattle.commit_spine.specs.Passes.{KeptByPass, no_turn, look_turn, offer_turn, history_kept}
+use Rattle.commit_spine.specs.Passes.{KeptByPass, look_turn, offer_turn, history_kept}
 use Rattle.commit_spine.specs.Stores.{Slot, HasStoreOf}
 use Rattle.commit_spine.specs.StepKinds.{after_load, after_load_for_look, after_take_for_look, after_lost_look, after_take_for_offer, after_lost_offer, after_answered_look, after_look_in_vain, after_admitted_offer}
 use Rattle.commit_spine.specs.StepTells.{Hand, FindsWord, TakesForLook, TakesForOffer}
@@ -69,7 +69,8 @@ pub record IsAnsweredLook (old new : KeptByPass) (front : KeptRevision) : Type 0
   pub seen : BeginsWith history old.seen
   pub reached : old.floor ≤ length history
   pub small : length history < 2 ^ 62
-  pub keeps : new ≡ after_answered_look (after_take_for_look (after_load_for_look old word) history) history
+  pub keeps :
+      new ≡ after_answered_look (after_take_for_look (after_load_for_look old word) history) history
 
 -- a look took the turn, found no memory and gave the turn back
 pub record IsLookInVain (old new : KeptByPass) : Type 0 where
@@ -129,7 +130,8 @@ pub record IsLateOffer (old new : KeptByPass) (found : ℕ) : Type 0 where
   pub keeps : new ≡ after_lost_offer old word
 
 -- the answer of an offer; a refusal never took the turn, and hands both values back
-abbrev pub IsOfferOf : (old new : KeptByPass) → Record → KeptRevision → Result ℕ OfferRefusal → Type 0
+abbrev pub IsOfferOf : (old new : KeptByPass) → Record → KeptRevision
+    → Result ℕ OfferRefusal → Type 0
 IsOfferOf old new entry next (Ok number) = IsAdmittedOffer old new (plain_record entry) number
 IsOfferOf old new entry next (Err (OfferBusy entry_back next_back)) =
     (entry_back ≡ entry) × (next_back ≡ next) × IsBusyOffer old new

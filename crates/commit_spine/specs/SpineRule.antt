@@ -31,7 +31,8 @@ IsSeat (Some seat) count = seat < count
 
 -- where the turn is free the slot has the store of the history; else its holder has that
 abbrev pub HasHome : SpineMark → List (maybe.Option Slot) → List PlainRecord → Option ℕ → Type 0
-HasHome mark homes history None = (slot : Slot) × (homes ≡ maybe.some slot ∷ []) × HasStoreOf mark slot history
+HasHome mark homes history None =
+    (slot : Slot) × (homes ≡ maybe.some slot ∷ []) × HasStoreOf mark slot history
 HasHome mark homes history (Some seat) = homes ≡ maybe.none ∷ []
 
 -- a seat's pass has the turn exactly where that seat is the holder, and keeps the history with it
@@ -70,12 +71,14 @@ pub record FitsHistory (mark : SpineMark) (history : List PlainRecord) (holder :
 -- each seat's pass fits
 abbrev pub AllFitHistory : SpineMark → List PlainRecord → Option ℕ → (passes : List KeptByPass) → Type 0
 AllFitHistory mark history holder passes =
-    (seat : ℕ) (kept : KeptByPass) → get_elem? passes seat ≡ maybe.some kept → FitsHistory mark history holder seat kept
+    (seat : ℕ) (kept : KeptByPass) → get_elem? passes seat ≡ maybe.some kept
+    → FitsHistory mark history holder seat kept
 
 -- over all passes together each number of the history stands once among the own records
 abbrev pub StandOnce : List PlainRecord → (passes : List KeptByPass) → Type 0
 StandOnce history passes =
-    (number : ℕ) → 1 ≤ number → number ≤ length history → sum_by (λ kept. times_own number kept.own) passes ≡ 1
+    (number : ℕ) → 1 ≤ number → number ≤ length history
+    → sum_by (λ kept. times_own number kept.own) passes ≡ 1
 
 -- the rule: there is one lawful history, which the word, the slot and all passes agree on
 pub record SpineHolds (mark : SpineMark) (state : SpineState) : Type 0 where

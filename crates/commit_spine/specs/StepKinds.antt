@@ -15,7 +15,7 @@
 --                                    the new pass              split_off
 --   join                             the pass                  after_join
 --                                    the other pass            joined_away
-use Rattle.std.specs.Prelude.{◌==◌, ℕ, Bool, ◌+◌, ◌-◌, ◌/◌, ◌%◌, List, [], ◌∷◌, ◌++◌, cond, leb, length, max}
+use Rattle.std.specs.Prelude.{◌==◌, ℕ, ◌+◌, ◌-◌, ◌/◌, ◌%◌, List, [], ◌∷◌, ◌++◌, cond, leb, length, max}
 use Rattle.counts.specs.Raised.{raised}
 use Rattle.tree_revision.specs.Records.{PlainRecord}
 use Rattle.commit_spine.specs.Passes.{KeptByPass, no_turn, look_turn, offer_turn}

@@ -1,10 +1,8 @@
 -- What each kind of step tells its caller.
-use Rattle.std.specs.Prelude.{◌≡◌, ◌≢◌, ℕ, ◌+◌, ◌-◌, ◌/◌, ◌≤◌, List, [], ◌∷◌, ◌++◌, length}
-use Rattle.std.specs.List.{count_by}
+use Rattle.std.specs.Prelude.{◌≡◌, ◌≢◌, ℕ, ◌+◌, ◌/◌, ◌≤◌, List, [], ◌∷◌, ◌++◌, length}
 use Rattle.atomic_table.specs.Table.{Me, Step, rest}
 use Rattle.tree_revision.specs.Records.{PlainRecord}
 use Rattle.tree_revision.specs.Ports.{BeginsWith}
-use Rattle.commit_spine.specs.declared.mark.SpineMark.{SpineMark}
 use Rattle.commit_spine.specs.Passes.{KeptByPass, history_kept, times_own}
 use Rattle.commit_spine.specs.Stores.{Slot, HasStoreOf}
 use Rattle.commit_spine.specs.StepKinds.{after_load, after_load_for_look, after_take_for_look, after_lost_look, after_take_for_offer, after_lost_offer, after_answered_look, after_look_in_vain, after_admitted_offer}
@@ -46,7 +44,8 @@ load_tells step before found after = FindsWord (after_load before.0 found) found
 
 -- a load for a look
 abbrev pub load_for_look_tells : Step Slot → Hand → ℕ → Hand → Type 0
-load_for_look_tells step before found after = FindsWord (after_load_for_look before.0 found) found before after
+load_for_look_tells step before found after =
+    FindsWord (after_load_for_look before.0 found) found before after
 
 -- an exchange for a look
 abbrev pub take_for_look_tells : Step Slot → Hand → ℕ → Hand → Type 0

@@ -1,4 +1,3 @@
-use Rattle.std.proofs.Common.{rules}
 use Rattle.commit_spine.proofs.InHand.{look_store}
 use Rattle.commit_spine.proofs.spine_parts.Spine.share_front.Goals as goal
 
