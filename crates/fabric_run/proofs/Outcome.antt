@@ -4,7 +4,6 @@ use Rattle.std.specs.Prelude.{Option, Some, None, Ok, Err, Result, nat_lt}
 use Rattle.std.proofs.lemmas.Bool.{lt-ltb}
 use Rattle.script_read.specs.declared.script.ScriptFault.{ScriptFault}
 use Rattle.script_read.specs.declared.script.ScriptFault.TheVariants.{TooLong}
-use Rattle.script_read.specs.Reads.{script_in}
 use Rattle.counts.specs.Raised.{HasRisen}
 use Rattle.byte_ports.specs.Sources.{SourceView, IsToldAs, IsLongerThan}
 use Rattle.byte_ports.specs.Sinks.{SinkView}

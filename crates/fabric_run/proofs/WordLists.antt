@@ -1,10 +1,9 @@
 -- The words that name a command.
-use Rattle.std.proofs.Common.{◌≡◌, ℕ, ◌<◌, ◌≤◌, List, [], ◌∷◌, length, map, get_or, arith, ap, sym, ◌∙◌, subst}
-use Rattle.std.specs.Prelude.{Option, Some, None, String, string_bytes, codes, decimal}
+use Rattle.std.proofs.Common.{◌≡◌, ◌<◌, ◌≤◌, List, [], ◌∷◌, length, map, get_or, arith, subst}
+use Rattle.std.specs.Prelude.{Option, String, string_bytes}
 use Rattle.std.specs.declared.alloc.Global.{Global}
 use Rattle.fabric_run.specs.declared.words.Command.{Command}
-use Rattle.fabric_run.specs.declared.words.Command.TheVariants.{Turns, Make, Sweep}
-use Rattle.fabric_run.specs.Words.{Names, NamesNone, ReadsWords}
+use Rattle.fabric_run.specs.Words.{ReadsWords}
 
 -- a list of one word
 pub one_word : (words : List (String Global)) (word : String Global) (answer : Option Command) → 1 ≤ length words → length words < 2 → word ≡ get_or words 0 word
