@@ -1,4 +1,4 @@
-//! A pass of a spine that fills the room.
+//! Commits on one spine, by one pass and by two, on one thread.
 
 ghost use Rattle.std.specs.Prelude.{◌≡◌, ◌≤◌, ◌<◌, ◌^◌, []};
 ghost use Rattle.tree_revision.specs.Records.{plain_op};
@@ -115,4 +115,16 @@ fn a_record_fills_its_room(rt: HostRuntime) {
     assert!(rt; admitted == Ok(1));
     assert!(rt; pass.permits() == 0);
     assert!(rt; spine.close(pass).records.len() == 1);
+}
+
+#[test]
+fn a_second_pass_commits_after_the_first(rt: HostRuntime) {
+    let alloc = rt.alloc();
+    let (spine, mut a, held) = opened(&rt, alloc, 2, 2);
+    let mut b = spine.split(&mut a, 1);
+    let first = commit(&rt, alloc, &spine, &mut a, &held, Op::Stop);
+    assert!(rt; first == Ok(1));
+    assert!(rt; spine.number(&mut b) == 1);
+    let second = commit(&rt, alloc, &spine, &mut b, &held, Op::Suspend);
+    assert!(rt; second == Ok(2));
 }
