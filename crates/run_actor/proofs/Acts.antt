@@ -1,23 +1,18 @@
 -- What each event's calls promise makes it an event of the machine.
-use Rattle.std.proofs.Common.{◌≡◌, ◌≢◌, ℕ, zero, suc, ◌+◌, ◌≤◌, ◌<◌, List, [], ◌∷◌, ◌++◌, length, take, drop, arith, refl, ap, sym, ◌∙◌, subst, true, false, cond, inl, inr, length-append, nat_eq}
-use Rattle.std.specs.Prelude.{Option, Some, None, Ok, slice_get, ◌⊎◌}
-use Rattle.std.specs.Option.{option_and_then}
+use Rattle.std.proofs.Common.{◌≡◌, ℕ, zero, suc, ◌≤◌, List, [], ◌∷◌, ◌++◌, length, take, drop, arith, refl, ap, sym, ◌∙◌, subst, true, false, cond, inl, length-append, nat_eq}
+use Rattle.std.specs.Prelude.{Option, Some, None, slice_get, ◌⊎◌}
 use Rattle.std.proofs.lemmas.Bool.{eq-eqb, ne_eqb}
-use Rattle.std.proofs.lemmas.Option.{none-some, same_Some}
+use Rattle.std.proofs.lemmas.Option.{none-some}
 use Rattle.std.proofs.Math.Seq.{take-length}
-use Rattle.tree_revision.specs.Records.{PlainOp, stop, PlainRecord}
+use Rattle.tree_revision.specs.Records.{PlainOp, stop}
 use Rattle.tree_revision.specs.Script.{PlainAct, commit, hold, mount, PlainStep}
-use Rattle.tree_revision.specs.Cancels.{cancel_of}
 use Rattle.tree_revision.specs.Mountable.{mountable_of}
 use Rattle.tree_revision.specs.Stands.{StandsFor}
 use Rattle.tree_revision.specs.Settled.{KeptRevision}
-use Rattle.tree_revision.specs.Ports.{Told, Lasts, IsLook, HasLooked, Stays, IsOffer}
-use Rattle.tree_revision.specs.declared.record.Cancel.{Cancel}
+use Rattle.tree_revision.specs.Ports.{Told, Lasts, IsLook, HasLooked, Stays}
 use Rattle.tree_revision.specs.declared.record.Answer.{Answer}
-use Rattle.tree_revision.specs.declared.record.Answer.TheVariants.{Held, Admitted, Cancelled, Mounted, Empty}
+use Rattle.tree_revision.specs.declared.record.Answer.TheVariants.{Held, Mounted, Empty}
 use Rattle.counts.specs.Raised.{HasRisen}
-use Rattle.commit_core.specs.Commit.{PlainCommit, entry_under_way, looked_at}
-use Rattle.commit_core.specs.Events.{cause_after, IsClearLook, IsCancelledLook, IsAdmittedOffer, IsLateOffer, IsBusyEvent, IsLookInVain, IsEnd}
 use Rattle.commit_core.proofs.Steps.{take_begins}
 use Rattle.mount_coordinator.specs.Mounted.{PlainCoordinator, IsBaseIn}
 use Rattle.mount_coordinator.specs.Answers.{IsTransaction, IsNothingNewer}
@@ -25,15 +20,14 @@ use Rattle.mount_coordinator.specs.declared.coordinator.Transaction.{Transaction
 use Rattle.mount_coordinator.specs.declared.coordinator.Pulled.TheVariants.{Transaction as PulledTransaction, Empty as PulledEmpty}
 use Rattle.run_report.specs.declared.journal.StepPart.{StepPart}
 use Rattle.run_report.specs.Points.{held_after, number_held}
-use Rattle.run_report.specs.Machine.{SurfaceNow, ActorNow, Moment, moment, answered, looked_with, after_commit, after_event}
-use Rattle.run_report.specs.Shorthands.{trying, recorded, mounted_at}
+use Rattle.run_report.specs.Machine.{SurfaceNow, moment, answered}
+use Rattle.run_report.specs.Shorthands.{mounted_at}
 use Rattle.run_report.proofs.Looks.{number_held-push}
-use Rattle.run_actor.specs.declared.actors.Event.{Event}
 use Rattle.run_actor.specs.declared.actors.Event.TheVariants.{Did, Busy, Memory}
-use Rattle.run_actor.specs.Actors.{RunningActor, actor_now, revision_held, commit_record}
-use Rattle.run_actor.specs.Actions.{answered_as, with_commit, with_held, with_mount}
-use Rattle.run_actor.specs.Event.{surface_told, IsHolding, IsUnderWay, IsInOrder, KeepsElsewhere, IsEventOf, HasDone, IsLookEvent, IsAdmittedEvent, IsLateEvent, mount_by, step_name}
-use Rattle.run_actor.specs.Steps.{MayGoOn, HasGoneOn, HasPulled, HasEndedWith}
+use Rattle.run_actor.specs.Actors.{RunningActor, actor_now, revision_held}
+use Rattle.run_actor.specs.Actions.{answered_as, with_held, with_mount}
+use Rattle.run_actor.specs.Event.{surface_told, IsHolding, IsInOrder, KeepsElsewhere, mount_by, step_name}
+use Rattle.run_actor.specs.Steps.{HasGoneOn, HasPulled, HasEndedWith}
 
 op_in : PlainAct → PlainOp
 op_in (commit op) = op

@@ -1,11 +1,11 @@
 -- What a turn of a commit promises makes it an event of the machine.
-use Rattle.std.proofs.Common.{◌≡◌, ◌≢◌, ℕ, ◌+◌, ◌≤◌, ◌<◌, List, [], ◌∷◌, ◌++◌, length, take, arith, refl, ap, sym, ◌∙◌, subst, true, false, cond, inl, inr, length-append, nat_eq}
-use Rattle.std.specs.Prelude.{Option, Some, None, slice_get, ◌⊎◌}
+use Rattle.std.proofs.Common.{◌≡◌, ℕ, ◌+◌, ◌≤◌, [], ◌∷◌, length, take, arith, refl, ap, sym, ◌∙◌, subst, true, false, cond, inl, inr, length-append, nat_eq}
+use Rattle.std.specs.Prelude.{Option, Some, None, slice_get}
 use Rattle.std.proofs.lemmas.Bool.{eq-eqb}
 use Rattle.std.proofs.lemmas.Option.{none-some, same_Some}
 use Rattle.std.proofs.Math.Seq.{take-length}
 use Rattle.tree_revision.specs.Records.{PlainOp, PlainRecord}
-use Rattle.tree_revision.specs.Script.{PlainAct, commit}
+use Rattle.tree_revision.specs.Script.{commit}
 use Rattle.tree_revision.specs.Cancels.{cancel_of}
 use Rattle.tree_revision.specs.Stands.{StandsFor}
 use Rattle.tree_revision.specs.Settled.{KeptRevision}
@@ -14,17 +14,17 @@ use Rattle.tree_revision.specs.declared.record.Cancel.{Cancel}
 use Rattle.tree_revision.specs.declared.record.Answer.{Answer}
 use Rattle.tree_revision.specs.declared.record.Answer.TheVariants.{Held, Admitted, Cancelled, Mounted, Empty}
 use Rattle.commit_core.specs.Commit.{PlainCommit, entry_under_way, looked_at}
-use Rattle.commit_core.specs.Events.{IsReadyFor, cause_after, IsClearLook, IsCancelledLook, IsAdmittedOffer, IsLateOffer, IsBusyEvent, IsLookInVain, IsEnd}
+use Rattle.commit_core.specs.Events.{cause_after, IsClearLook, IsCancelledLook, IsAdmittedOffer, IsLateOffer, IsBusyEvent, IsLookInVain, IsEnd}
 use Rattle.mount_coordinator.specs.Mounted.{PlainCoordinator}
-use Rattle.run_report.specs.Machine.{SurfaceNow, ActorNow, Moment, moment, answered, looked_with, after_commit, after_event}
+use Rattle.run_report.specs.Machine.{SurfaceNow, ActorNow, moment, answered, looked_with, after_commit, after_event}
 use Rattle.run_report.specs.Shorthands.{trying, recorded}
 use Rattle.run_actor.specs.declared.actors.Event.{Event}
 use Rattle.run_actor.specs.declared.actors.Event.TheVariants.{Did, Busy, Memory}
-use Rattle.run_actor.specs.Actors.{RunningActor, actor_now, revision_held, commit_record, tries_of}
+use Rattle.run_actor.specs.Actors.{RunningActor, actor_now, revision_held, commit_record}
 use Rattle.run_actor.specs.Actions.{answered_as, with_commit, with_held}
-use Rattle.run_actor.specs.Event.{surface_told, base_of, IsHolding, IsUnderWay, IsInOrder, KeepsElsewhere, IsEventOf, HasDone}
+use Rattle.run_actor.specs.Event.{surface_told, base_of, IsHolding, IsUnderWay, IsInOrder, KeepsElsewhere, HasDone}
 use Rattle.run_actor.specs.Steps.{MayGoOn, HasGoneOn, HasEnded}
-use Rattle.run_actor.proofs.Acts.{same_op, holding_lasts, lasts_same, stays_same, order_answered, elsewhere_answered}
+use Rattle.run_actor.proofs.Acts.{same_op, holding_lasts, stays_same, order_answered, elsewhere_answered}
 
 -- a commit that ended with a revision was admitted
 pub admitted_end : (old new : Told) (before after : PlainCommit) (answer : Answer) (now : KeptRevision) → IsEnd old new before after answer (Some now)

@@ -1,8 +1,8 @@
 -- Steps and revisions of an actor, read from its lists.
-use Rattle.std.proofs.Common.{◌≡◌, ℕ, zero, suc, ◌+◌, ◌<◌, Bool, List, [], ◌∷◌, ◌++◌, length, take, drop, map, get_or, arith, refl, ap, sym, ◌∙◌, subst, true, false, cond, add-one}
-use Rattle.std.specs.Prelude.{nat_eq, All, Option, Some, None, IfSome, slice_get, option_copied, option_map}
+use Rattle.std.proofs.Common.{◌≡◌, ℕ, zero, suc, ◌+◌, ◌<◌, List, [], ◌∷◌, ◌++◌, length, take, drop, map, get_or, arith, refl, ap, sym, ◌∙◌, subst, false, cond, add-one}
+use Rattle.std.specs.Prelude.{nat_eq, All, Option, Some, None, IfSome, slice_get, option_map}
 use Rattle.std.specs.List.{AllByRecursion, IsDistinct}
-use Rattle.std.proofs.lemmas.Option.{none-some, same_Some, slice_get-map}
+use Rattle.std.proofs.lemmas.Option.{slice_get-map}
 use Rattle.std.proofs.lemmas.Bool.{ne_eqb, eqb-false}
 use Rattle.std.proofs.Math.Seq.{take-suc}
 use Rattle.indexmap.specs.IndexMap.{insert_entry}

@@ -1,5 +1,5 @@
 -- Actors in a run as plain data.
-use Rattle.std.specs.Prelude.{◌≡◌, ℕ, ◌+◌, List, length, nat_eq, Option, Some, None, option_and_then, option_map, unwrap_or, refl, map}
+use Rattle.std.specs.Prelude.{◌≡◌, ℕ, List, length, nat_eq, Option, Some, None, option_and_then, option_map, unwrap_or, refl}
 use Rattle.std.specs.Map.{lookup}
 use Rattle.std.specs.Coded.{Coded, code_by, coded×, coded_list, coded_option, coded_ℕ}
 use Rattle.tree_revision.specs.Records.{PlainOp, PlainRecord}

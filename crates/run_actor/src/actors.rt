@@ -11,7 +11,9 @@ ghost use Rattle.tree_revision.specs.declared.record.Answer.TheVariants.{Mounted
 ghost use Rattle.commit_core.specs.Commit.{looked_at};
 ghost use Rattle.mount_coordinator.specs.Mounted.{PlainCoordinator};
 ghost use Rattle.script_read.specs.Plain.{plain_act, plain_actor, plain_step};
-ghost use Rattle.run_actor.specs.Actors.{commit_record, revision_held};
+ghost use Rattle.run_report.specs.Journal.{plain_actor_part};
+ghost use Rattle.run_report.specs.Machine.{actor_part_of};
+ghost use Rattle.run_actor.specs.Actors.{actor_now, commit_record, revision_held};
 ghost use Rattle.run_actor.specs.Actions.{answered_as, begun_actor, with_commit, with_held, with_mount};
 ghost use Rattle.run_actor.specs.Event.{IsEventOf, IsHolding, IsInOrder, IsUnderWay, KeepsElsewhere, MayAct, MayMount, mount_by, step_name};
 ghost use Rattle.run_actor.specs.Steps.{HasEnded, HasGoneOn, HasPulled, MayGoOn};
@@ -19,10 +21,10 @@ ghost use Rattle.run_actor.specs.Steps.{HasEnded, HasGoneOn, HasPulled, MayGoOn}
 use commit_core::{Committer, Progress};
 use indexmap::IndexMap;
 use mount_coordinator::{Coordinator, Pulled, Transaction};
-use run_report::{MountPart, StepName, StepPart};
+use run_report::{ActorPart, MountPart, StepName, StepPart};
 use script_read::{Act, ActorPlan, Step};
 use shadow_node::Made;
-use sqlite_items::at;
+use sqlite_items::{Items, at};
 use std::alloc::{AllocError, Global};
 use std::marker::Model;
 use std::sync::Arc;
@@ -126,6 +128,24 @@ impl<'a> Actor<'a> {
         ensures { result.now ≡ self.now.mounts }
     {
         &self.mounts
+    }
+
+    /// Its part of the journal, and the transactions of its mounts. None is copied.
+    pub fn into_parts(self, alloc: Global) -> Result<(ActorPart, Vec<(u32, MountPart)>), AllocError>
+        ensures part { IfOk result (λ parts. plain_actor_part parts.0 ≡ actor_part_of (actor_now self.entry)) }
+        ensures mounts { IfOk result (λ parts. parts.1.items ≡ self.entry.mounts) }
+    {
+        let Actor {
+            name,
+            answers,
+            mounts,
+            ..
+        } = self;
+        let part = ActorPart {
+            name: Items::from_slice(alloc, name)?,
+            steps: Items::from_vec(answers),
+        };
+        Ok((part, mounts))
     }
 
     /// One event of the step that it is at, at the port of the step's surface. On a step that is no

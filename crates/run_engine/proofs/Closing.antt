@@ -1,8 +1,9 @@
 -- The closing mount, and what a surface leaves.
-use Rattle.std.proofs.Common.{◌≡◌, List, [], ◌∷◌, ◌++◌, map, arith, ap, sym, ◌∙◌, false, cond}
-use Rattle.std.specs.Prelude.{nat_eq, None}
+use Rattle.std.proofs.Common.{◌≡◌, List, [], ◌∷◌, ◌++◌, map, arith, ap, sym, subst, ◌∙◌, false, cond}
+use Rattle.std.specs.Prelude.{nat_eq, Option, None, Some, Ok}
 use Rattle.std.proofs.lemmas.Bool.{eq-eqb, ne_eqb}
 use Rattle.std.proofs.lemmas.List.{map-append}
+use Rattle.std.proofs.lemmas.Option.{same_Some}
 use Rattle.shadow_frame.specs.declared.Size.{Size}
 use Rattle.host_views.specs.declared.PlacedView.{PlacedView}
 use Rattle.host_views.specs.Plain.{plain_mutation, plain_placed}
@@ -11,12 +12,18 @@ use Rattle.tree_revision.specs.Records.{PlainRecord}
 use Rattle.tree_revision.specs.Settled.{KeptRevision}
 use Rattle.tree_revision.specs.Stands.{StandsFor}
 use Rattle.tree_revision.specs.Mountable.{mountable_of}
-use Rattle.mount_coordinator.specs.Mounted.{PlainCoordinator, host_tree_at}
-use Rattle.mount_coordinator.specs.Answers.{IsTransaction, IsNothingNewer}
+use Rattle.commit_core.specs.PlainPorts.{records_of, told_of, IsToldOf}
+use Rattle.commit_core.specs.declared.plain_parts.PlainSpine.{PlainSpine}
+use Rattle.commit_core.specs.declared.plain_parts.PlainPass.{PlainPass}
+use Rattle.commit_core.specs.declared.plain_parts.PlainPort.{PlainPort}
+use Rattle.mount_coordinator.specs.Mounted.{PlainCoordinator, IsBaseIn, host_tree_at}
+use Rattle.mount_coordinator.specs.Answers.{IsTransaction, IsNothingNewer, IsFinishAnswer}
 use Rattle.mount_coordinator.specs.declared.coordinator.Transaction.{Transaction}
 use Rattle.run_report.specs.declared.journal.MountPart.{MountPart}
 use Rattle.run_report.specs.Journal.{plain_mount}
 use Rattle.run_report.specs.Mounts.{Passage, closed, last_to, mount_along}
+use Rattle.run_engine.specs.Now.{PlainDesk, desk_records}
+use Rattle.run_engine.specs.Run.{IsOpen}
 
 -- there is a closing mount
 pub closing_some : (first : Size) (records : List PlainRecord) (passages : List Passage) (old new : PlainCoordinator) (transaction : Transaction) (part : MountPart) (mounts all : List MountPart)
@@ -51,3 +58,25 @@ pub last_views : (first : Size) (records : List PlainRecord) (front next : KeptR
     → map plain_placed views ≡ host_tree_at first records (mountable_of records)
 last_views first records front next views stands is told =
     told ∙ ap (λ (next : KeptRevision). host_tree_of next.newest.forest) is ∙ ap host_tree_of stands.mountable.forest
+
+-- what a finish answers
+pub finish_none : (first : Size) (entries : List PlainRecord) (old new : PlainCoordinator) (found : Option Transaction) → found ≡ None → IsFinishAnswer first entries old new (Ok found)
+    → IsNothingNewer entries old new
+finish_none first entries old new found is answer = subst (λ found. IsFinishAnswer first entries old new (Ok found)) is answer
+
+pub finish_some : (first : Size) (entries : List PlainRecord) (old new : PlainCoordinator) (found : Option Transaction) (transaction : Transaction) → found ≡ Some transaction
+    → IsFinishAnswer first entries old new (Ok found) → IsTransaction first entries old new transaction
+finish_some first entries old new found transaction is answer = subst (λ found. IsFinishAnswer first entries old new (Ok found)) is answer
+
+-- a port's spine is what the port had
+pub spine_stands : (port : PlainPort) (spine : PlainSpine) (pass : PlainPass) (front shared : KeptRevision) → IsToldOf spine pass (told_of port) → StandsFor spine.first front (records_of spine)
+    → shared ≡ front → StandsFor port.spine.first shared (records_of port.spine)
+spine_stands port spine pass front shared told stands is =
+    subst (λ first. StandsFor first shared (records_of port.spine)) (sym told.first)
+    (subst (λ records. StandsFor spine.first shared records) (sym (same_Some (records_of port.spine) (records_of spine) told.whole))
+    (subst (λ front. StandsFor spine.first front (records_of spine)) (sym is) stands))
+
+-- a base stands for the first of its surface's records
+pub base_stands : (desk : PlainDesk) → IsOpen desk → (coordinator : PlainCoordinator) → desk.mount ≡ Some coordinator → IsBaseIn desk.port.spine.first (desk_records desk) coordinator.base
+base_stands desk mounted coordinator is =
+    subst (λ (c : PlainCoordinator). IsBaseIn desk.port.spine.first (desk_records desk) c.base) (same_Some mounted.coordinator coordinator (sym mounted.mounted ∙ is)) mounted.base

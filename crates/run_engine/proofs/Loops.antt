@@ -1,11 +1,11 @@
 -- Loops over lists, an item further.
-use Rattle.std.proofs.Common.{◌≡◌, ℕ, ◌+◌, ◌*◌, ◌<◌, ◌^◌, List, [], ◌∷◌, ◌++◌, length, take, get_or, map, suc, zero, arith, ap, sym, ◌∙◌, subst, add-one, append_assoc}
-use Rattle.std.specs.Prelude.{All, slice_get, replicate, Some}
+use Rattle.std.proofs.Common.{◌≡◌, ℕ, ◌+◌, ◌*◌, ◌<◌, ◌^◌, List, [], ◌∷◌, ◌++◌, length, take, get_or, map, slice_get, suc, zero, arith, refl, ap, sym, ◌∙◌, subst, add-one, append_assoc}
+use Rattle.std.specs.Prelude.{All, replicate, Some}
 use Rattle.std.specs.Option.{option_map}
 use Rattle.std.proofs.lemmas.Option.{none-some, same_Some, slice_get-map}
-use Rattle.std.specs.List.{flat_map, enumerate_from, fold}
 use Rattle.std.proofs.lemmas.List.{length-map, length-take, map-append}
 use Rattle.std.proofs.lemmas.List.Sums.{fold-append}
+use Rattle.std.specs.List.{flat_map, enumerate_from, fold}
 use Rattle.std.proofs.Math.Seq.{take-suc}
 use Rattle.tree_settle.specs.Limits.{IsSizeInRange}
 use Rattle.tree_revision.specs.Script.{PlainActor}
@@ -15,11 +15,20 @@ use Rattle.script_read.specs.declared.script.SurfacePlan.{SurfacePlan}
 use Rattle.script_read.specs.declared.script.ActorPlan.{ActorPlan}
 use Rattle.run_report.specs.Machine.{RunNow, after_turn, ending_turns}
 use Rattle.run_report.proofs.Lists.{all_at, enumerate_from-push, flat_map_push}
-use Rattle.run_engine.proofs.Places.{there_at}
+
+-- what stands at a place below the length
+pub there_at : {A : Type 0} (xs : List A) (i : ℕ) (d : A) → i < length xs → slice_get xs i ≡ Some (get_or xs i d)
+there_at [] i d h = absurd (omega (arith, h))
+there_at (x ∷ xs) zero d h = refl
+there_at (x ∷ xs) (suc i) d h = there_at xs i d (omega (arith, h))
 
 -- the items so far, and the next one
+pub take_next : {A : Type 0} (xs : List A) (i : ℕ) (d : A) → i < length xs → take (i + 1) xs ≡ take i xs ++ get_or xs i d ∷ []
+take_next xs i d within = rw (add-one, take-suc xs i d within) refl
+
+-- so of what is made of each
 pub next_map : {A B : Type 0} (f : A → B) (xs : List A) (i : ℕ) (d : A) → i < length xs → map f (take (i + 1) xs) ≡ map f (take i xs) ++ f (get_or xs i d) ∷ []
-next_map f xs i d within = rw (add-one, take-suc xs i d within) (map-append f (take i xs) (get_or xs i d ∷ []))
+next_map f xs i d within = ap (map f) (take_next xs i d within) ∙ map-append f (take i xs) (get_or xs i d ∷ [])
 
 pub map_next : {A B : Type 0} (f : A → B) (xs : List A) (i : ℕ) (d : A) → i < length xs → d ≡ get_or xs i d → map f (take (i + 1) xs) ≡ map f (take i xs) ++ f d ∷ []
 map_next f xs i d within is = next_map f xs i d within ∙ ap (λ d. map f (take i xs) ++ f d ∷ []) (sym is)
@@ -45,11 +54,11 @@ pub size_at : (surfaces : List SurfacePlan) (i : ℕ) (d : SurfacePlan) → i < 
 size_at surfaces i d within all = (item_holds plain_surface IsSurfaceInRange surfaces i d within all).size
 
 -- each step of an actor has a number
-pub calls_at : (actors : List ActorPlan) (i : ℕ) (actor : ActorPlan) → i < length actors → actor ≡ get_or actors i actor → All (λ actor. length actor.steps < 2 ^ 31) (map plain_actor actors)
-    → length actor.steps < 2 ^ 31
-calls_at actors i actor within is all =
-    let here : length (map plain_step (get_or actors i actor).steps) < 2 ^ 31 = item_holds plain_actor (λ (actor : PlainActor). length actor.steps < 2 ^ 31) actors i actor within all in
-    omega (arith, here, length-map (get_or actors i actor).steps plain_step, ap (λ (actor : ActorPlan). length actor.steps) is)
+pub calls_at : (actors : List ActorPlan) (i : ℕ) (d : ActorPlan) → i < length actors → All (λ actor. length actor.steps < 2 ^ 31) (map plain_actor actors)
+    → length (get_or actors i d).steps < 2 ^ 31
+calls_at actors i d within all =
+    let here : length (map plain_step (get_or actors i d).steps) < 2 ^ 31 = item_holds plain_actor (λ (actor : PlainActor). length actor.steps < 2 ^ 31) actors i d within all in
+    omega (arith, here, length-map (get_or actors i d).steps plain_step)
 
 -- the ending turns, an actor further
 pub ending_next : (actors : List ActorPlan) (i : ℕ) (actor : ActorPlan) → i < length actors → actor ≡ get_or actors i actor
@@ -75,3 +84,7 @@ ended_next start old new turns actors read i actor count same below item counted
     now ∙ (λ j. fold after_turn (was j) (replicate (3 * counted j) i))
     ∙ sym (fold-append after_turn start (turns ++ before) (replicate (3 * length actor.steps) i))
     ∙ ap (fold after_turn start) (append_assoc turns before (replicate (3 * length actor.steps) i) ∙ ap (λ l. turns ++ l) (sym (ending_next actors i actor within is)))
+
+-- what was read at a place below the length
+pub at_item : {A : Type 0} (xs : List A) (i : ℕ) (x : A) → x ≡ get_or xs i x → i < length xs → slice_get xs i ≡ Some x
+at_item xs i x is h = there_at xs i x h ∙ ap Some (sym is)

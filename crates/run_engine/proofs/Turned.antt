@@ -1,41 +1,36 @@
 -- A turn leads a run on as the machine says, and leaves it in order.
-use Rattle.std.proofs.Common.{◌≡◌, ℕ, zero, suc, ◌+◌, ◌-◌, ◌≤◌, ◌<◌, ◌^◌, Bool, List, [], ◌∷◌, ◌++◌, length, take, drop, map, find, slice_get, slice_set, arith, refl, ap, sym, ◌∙◌, subst, true, false, cond, length-append, append-nil, inl, inr}
+use Rattle.std.proofs.Common.{◌≡◌, ℕ, zero, suc, ◌+◌, ◌≤◌, List, [], ◌∷◌, length, take, map, find, slice_get, slice_set, arith, refl, ap, sym, ◌∙◌, subst, true, false, cond, length-append, inl, inr}
 use Rattle.std.specs.Prelude.{nat_eq, Option, Some, None, count_by, option_map}
-use Rattle.std.specs.List.{AllByRecursion, IsDistinct, fold}
-use Rattle.std.proofs.lemmas.Bool.{cases_eq, eq-eqb, ne_eqb, eqb-true, eqb-false}
-use Rattle.std.proofs.lemmas.Option.{none-some, same_Some, slice_get-map, slice_get_within}
-use Rattle.std.proofs.lemmas.List.{map-append, map-set, take-append-le, length-take, length-map, length-drop}
-use Rattle.shadow_frame.specs.declared.Size.{Size}
-use Rattle.view_flatten.specs.HostTree.{host_tree_of}
-use Rattle.view_mutation.specs.Mutations.{mutations_between}
-use Rattle.tree_revision.specs.Records.{PlainOp, PlainRecord}
+use Rattle.std.specs.List.{AllByRecursion, IsDistinct}
+use Rattle.std.proofs.lemmas.Bool.{cases_eq, eq-eqb, ne_eqb, eqb-false}
+use Rattle.std.proofs.lemmas.Option.{none-some, same_Some, slice_get-map}
+use Rattle.std.proofs.lemmas.List.{map-set, take-append-le, length-take}
+use base.Stored.{Gv, gnum}
+use Rattle.tree_revision.specs.Records.{PlainRecord}
 use Rattle.tree_revision.specs.Script.{PlainAct, commit, hold, mount, PlainStep, PlainActor, PlainScript}
-use Rattle.tree_revision.specs.Sound.{IsSoundScript, mounts_on}
-use Rattle.tree_revision.specs.Cancels.{cancel_of}
-use Rattle.tree_revision.specs.Mountable.{mountable_of}
-use Rattle.tree_revision.specs.Stands.{settled_of, StandsFor}
-use Rattle.tree_revision.proofs.Mountable.{mountable_of-within}
-use Rattle.tree_revision.specs.declared.record.Cancel.{Cancel}
-use Rattle.tree_revision.specs.declared.record.Answer.{Answer}
-use Rattle.tree_revision.specs.declared.record.Answer.TheVariants.{Held, Admitted, Cancelled, Mounted, Empty}
-use Rattle.script_read.specs.Plain.{plain_step}
-use Rattle.run_report.specs.Legal.{FollowOn}
-use Rattle.run_report.specs.Mounts.{Passage, passage_of, mount_along, last_to}
-use Rattle.run_report.specs.declared.journal.StepName.{StepName}
+use Rattle.tree_revision.specs.Sound.{IsSoundScript}
+use Rattle.tree_revision.specs.Ports.{Lasts}
+use Rattle.mount_coordinator.specs.Mounted.{IsBaseOf}
+use Rattle.tree_revision.specs.Stands.{StandsFor}
+use Rattle.std.proofs.Math.Seq.{take-length}
 use Rattle.run_report.specs.Points.{number_held}
-use Rattle.run_report.specs.Machine.{actor_part_of, SurfaceNow, ActorNow, RunNow, Moment, moment, answered, after_commit, after_event, after_turn, with_moment, looked_with}
-use Rattle.run_report.specs.Shorthands.{passages_named, after_event_of, after_event_by, after_event_on, trying, recorded, mounted_at, passage}
-use Rattle.run_report.proofs.Lists.{slice_get-set_same, slice_get-set_other, all_unmap, all_found, all_true}
-use Rattle.run_report.proofs.Kept.{parts_of, IsRunOf, IsSurfaceKept}
-use Rattle.run_report.proofs.Runs.{same_ids, at_step, one_mounter, own_in_range}
-use Rattle.run_report.proofs.Surfaces.{IsAtStep, quiet_passages, own_mount}
-use Rattle.run_report.proofs.Events.{mounted_passages}
-use Rattle.run_report.proofs.Passages.{passages_stay}
-use Rattle.run_engine.specs.declared.desks.Desk.{Desk}
-use Rattle.run_engine.specs.declared.actors.Actor.{Actor}
-use Rattle.run_engine.specs.Now.{desk_records, surface_now, actor_now, now_of}
-use Rattle.run_engine.specs.Event.{commit_record, IsNext, IsHolding, StaysElsewhere, MayGoOn, passages_at, IsEventOn}
-use Rattle.run_engine.specs.Run.{IsNumbered, IsDeskOf, AreInOrder}
+use Rattle.run_report.specs.Mounts.{passages_by, mount_along}
+use Rattle.run_report.specs.Shorthands.{number_mounted, after_event_of, after_event_by, after_event_on}
+use Rattle.run_report.specs.Machine.{SurfaceNow, ActorNow, RunNow, Moment, moment, after_event, after_turn, with_moment}
+use Rattle.run_report.proofs.Lists.{slice_get-set_same, slice_get-set_other, all_unmap}
+use Rattle.run_report.proofs.Kept.{IsRunOf, IsSurfaceKept}
+use Rattle.run_report.proofs.Runs.{same_ids, at_step}
+use Rattle.run_report.proofs.Surfaces.{IsAtStep, own_mount}
+use Rattle.run_engine.specs.declared.workers.Worker.{Worker}
+use Rattle.run_actor.specs.Actors.{actor_now, commit_record}
+use Rattle.run_actor.specs.Event.{IsUnderWay, MayMount, HasNeeds, KeepsElsewhere, base_of}
+use Rattle.run_engine.specs.Now.{PlainDesk, desk_records, told_with, surface_now, worker_now, now_of}
+use Rattle.run_engine.specs.Turns.{MayTurn, IsTurn}
+use Rattle.run_engine.specs.Run.{commits_on, commits_left, AreWithin, IsOpen, HasRoom, IsSeated, AreInOrder}
+use Rattle.run_actor.proofs.Acts.{holding_lasts}
+use Rattle.run_engine.proofs.Quiet.{StaysElsewhere, one_fewer, event_elsewhere}
+use Rattle.run_engine.proofs.Changes.{mounts-more, within-more, IsChange, change}
+use Rattle.commit_core.proofs.Steps.{ready_later}
 
 -- what stands at a place
 pub all_there : {A : Type 0} (P : A → Type 0) (xs : List A) (i : ℕ) (x : A) → AllByRecursion P xs → slice_get xs i ≡ Some x → P x
@@ -78,6 +73,18 @@ two_ids (z ∷ xs) (suc i) zero x y d at to off =
     ne_eqb x.id y.id (λ e. eqb-false z.id x.id there (ap (λ s. s.id) (same_Some z y to) ∙ sym e))
 two_ids (z ∷ xs) (suc i) (suc j) x y d at to off = two_ids xs i j x y d.1 at to (λ e. off (ap suc e))
 
+-- the surface of an id at its place is the one that is found
+pub find_at : (xs : List SurfaceNow) (place id : ℕ) (x : SurfaceNow) → IsDistinct nat_eq (map (λ s. s.id) xs) → slice_get xs place ≡ Some x → x.id ≡ id
+    → find (λ s. nat_eq s.id id) xs ≡ Some x
+unfolding IsDistinct
+find_at [] place id x d at e = absurd (none-some x at)
+find_at (y ∷ xs) zero id x d at e =
+    ap (λ same. cond same (Some y) (find (λ s. nat_eq s.id id) xs)) (eq-eqb y.id id (ap (λ s. s.id) (same_Some y x at) ∙ e)) ∙ at
+find_at (y ∷ xs) (suc place) id x d at e =
+    let there : nat_eq y.id x.id ≡ false = all_there (λ s. nat_eq y.id s.id ≡ false) xs place x (all_unmap (λ k. nat_eq y.id k ≡ false) (λ s. s.id) xs d.0) at in
+    ap (λ same. cond same (Some y) (find (λ s. nat_eq s.id id) xs)) (ne_eqb y.id id (λ f. eqb-false y.id x.id there (f ∙ sym e)))
+    ∙ find_at xs place id x d.1 at e
+
 -- what stands at a place of a list of which one item was set
 pub set_cases : {A : Type 0} (P : ℕ → A → Type 0) (xs : List A) (i : ℕ) (was is : A) → slice_get xs i ≡ Some was → P i is
     → ((j : ℕ) (x : A) → (j ≡ i → ⊥) → slice_get xs j ≡ Some x → P j x) → (j : ℕ) (x : A) → slice_get (slice_set xs i is) j ≡ Some x → P j x
@@ -89,247 +96,245 @@ set_cases P xs i was is at own other j x to =
       | inr n ↦ other j x n (sym (slice_get-set_other xs i j is n) ∙ to)
     ]
 
-pub parts_are : (actors : List Actor) → map (λ actor. actor_part_of (actor_now actor)) actors ≡ parts_of (map actor_now actors)
-parts_are [] = refl
-parts_are (a ∷ actors) = ap (λ l. actor_part_of (actor_now a) ∷ l) (parts_are actors)
+-- the commits that are left, where one actor goes on
+pub left_set : (id : ℕ) (actors : List ActorNow) (i : ℕ) (was is : ActorNow) → slice_get actors i ≡ Some was
+    → commits_left id (slice_set actors i is) + count_by (commits_on id) was.left ≡ commits_left id actors + count_by (commits_on id) is.left
+left_set id [] i was is at = absurd (none-some was at)
+left_set id (a ∷ actors) zero was is at = omega (arith, ap (λ (a : ActorNow). count_by (commits_on id) a.left) (same_Some a was at))
+left_set id (a ∷ actors) (suc i) was is at = omega (arith, left_set id actors i was is at)
 
--- passages that follow on lead up
-leads_up : (base : ℕ) (passages : List Passage) → FollowOn base passages → base ≤ fold (λ number step. step.to) base passages
-leads_up base [] f = omega arith
-leads_up base (step ∷ passages) f = omega (arith, f.0, f.1, leads_up step.to passages f.2)
+pub left_at_least : (id : ℕ) (actors : List ActorNow) (i : ℕ) (was : ActorNow) → slice_get actors i ≡ Some was → count_by (commits_on id) was.left ≤ commits_left id actors
+left_at_least id [] i was at = absurd (none-some was at)
+left_at_least id (a ∷ actors) zero was at = omega (arith, ap (λ (a : ActorNow). count_by (commits_on id) a.left) (same_Some a was at))
+left_at_least id (a ∷ actors) (suc i) was at = omega (arith, left_at_least id actors i was at)
 
-mount_along-more : (first : Size) (entries more : List PlainRecord) (step : Passage) → step.base ≤ length entries → step.to ≤ length entries
-    → mount_along first (entries ++ more) step ≡ mount_along first entries step
-mount_along-more first entries more step base to = λ i. record {
-  base = step.base;
-  to = step.to;
-  by = step.by;
-  mutations = mutations_between (host_tree_of (settled_of first (take-append-le step.base entries more base i))) (host_tree_of (settled_of first (take-append-le step.to entries more to i)));
-}
+take-take : {A : Type 0} (n m : ℕ) (xs : List A) → n ≤ m → take n (take m xs) ≡ take n xs
+take-take zero m xs low = refl
+take-take (suc n) zero xs low = absurd (omega (arith, low))
+take-take (suc n) (suc m) [] low = refl
+take-take (suc n) (suc m) (x ∷ xs) low = ap (λ l. x ∷ l) (take-take n m xs (omega (arith, low)))
 
--- more records change no mount between earlier revisions
-pub mounts-more : (first : Size) (entries more : List PlainRecord) (base : ℕ) (passages : List Passage) → FollowOn base passages
-    → fold (λ number step. step.to) base passages ≤ length entries
-    → map (mount_along first (entries ++ more)) passages ≡ map (mount_along first entries) passages
-mounts-more first entries more base [] f within = refl
-mounts-more first entries more base (step ∷ passages) f within =
-    let up : step.to ≤ fold (λ number step. step.to) step.to passages = leads_up step.to passages f.2 in
-    λ i. mount_along-more first entries more step (omega (arith, up, f.1, within)) (omega (arith, up, within)) i ∷ mounts-more first entries more step.to passages f.2 within i
+number_in : Gv → ℕ
+number_in (gnum n) = n
+number_in _ = 0
 
--- an event names its passages on its surface
-module _ (script : PlainScript) (actors : List ActorNow) (number : ℕ) (script_actor : PlainActor) (actor : ActorNow) (step : PlainStep) (rest : List PlainStep)
-    (t : IsAtStep script actors number script_actor actor step rest) (now : SurfaceNow) (one : count_by (mounts_on now.id) script.actors ≤ 1) where
-  NamesPassages : PlainAct → ActorNow → Type 0
-  NamesPassages act after = passages_named now.id (parts_of (slice_set actors number after)) ≡ passages_named now.id (parts_of actors) ++ passages_at number act now actor
+-- the room of a surface stays
+same_room : (a b : ℕ) → gnum a ≡ gnum b → a ≡ b
+unfolding number_in
+same_room a b e = ap number_in e
 
-  quiet : (act : PlainAct) (answer : Answer) → ((name : StepName) → passage_of name answer ≡ [])
-      → passages_at number act now actor ≡ [] → NamesPassages act (answered now.id answer actor)
-  unfolding NamesPassages
-  quiet act answer none nothing =
-      quiet_passages script actors number script_actor actor step rest t now.id answer none ∙ sym (append-nil (passages_named now.id (parts_of actors)))
-      ∙ ap (λ l. passages_named now.id (parts_of actors) ++ l) (sym nothing)
+pub first_of : (step : PlainStep) (steps : List PlainStep) → slice_get steps 0 ≡ Some step → (rest : List PlainStep) × (steps ≡ step ∷ rest)
+first_of step [] e = absurd (none-some step e)
+first_of step (s ∷ rest) e = (rest, ap (λ s. s ∷ rest) (same_Some s step e))
 
-  stays : (op : PlainOp) (tries : ℕ) (looked : Option ℕ) → NamesPassages (commit op) (trying tries looked actor)
-  unfolding NamesPassages
-  stays op tries looked =
-      passages_stay now.id actors number actor (trying tries looked actor) t.at refl ∙ sym (append-nil (passages_named now.id (parts_of actors)))
-
-  commit_names : (op : PlainOp) (looked : Option ℕ) → NamesPassages (commit op) (after_commit number op looked now actor).actor
-  commit_names op None = look (cancel_of now.first op now.records (number_held now.id actor.answers))
-    where
-      look : (cause : Option Cancel) → NamesPassages (commit op) (looked_with cause now actor)
-      look None = stays op (actor.tries + 1) (Some (length now.records))
-      look (Some cause) = quiet (commit op) (Cancelled (length now.records) (actor.tries + 1) cause) (λ name. refl) refl
-  commit_names op (Some at) = offer (nat_eq at (length now.records))
-    where
-      offer : (same : Bool) → NamesPassages (commit op) (cond same
-          (moment (recorded (record { actor = number; call = length actor.answers; held = number_held now.id actor.answers; op = op }) now) (answered now.id (Admitted (length now.records + 1) actor.tries) actor))
-          (moment now (trying actor.tries None actor))).actor
-      offer true = quiet (commit op) (Admitted (length now.records + 1) actor.tries) (λ name. refl) refl
-      offer false = stays op actor.tries None
-
-  mount_names : step.act ≡ mount → step.surface ≡ now.id → NamesPassages mount (after_event number mount now actor).actor
-  unfolding NamesPassages
-  mount_names act on =
-      elim (nat_eq (mountable_of now.records) now.base) as (λ same. passages_named now.id (parts_of (slice_set actors number (cond same
-      (moment now (answered now.id (Empty now.base) actor))
-      (moment (mounted_at (mountable_of now.records) now) (answered now.id (Mounted now.base (mountable_of now.records)) actor))).actor))
-      ≡ passages_named now.id (parts_of actors)
-      ++ cond same [] (passage now.base (mountable_of now.records) (Some (record { actor = number; call = length actor.answers })) ∷ [])) [
-        | true ↦
-            quiet_passages script actors number script_actor actor step rest t now.id (Empty now.base) (λ name. refl) ∙ sym (append-nil (passages_named now.id (parts_of actors)))
-        | false ↦
-            mounted_passages script actors number script_actor actor step rest t now.id now.base (mountable_of now.records) one
-            (own_mount script actors number script_actor actor step rest t now.id act on)
-      ]
-
-  pub event_names : (act : PlainAct) → step.act ≡ act → step.surface ≡ now.id
-      → passages_named now.id (parts_of (slice_set actors number (after_event number act now actor).actor)) ≡ passages_named now.id (parts_of actors) ++ passages_at number act now actor
-  unfolding NamesPassages
-  event_names (commit op) is on = commit_names op actor.looked
-  event_names hold is on = quiet hold (Held (length now.records)) (λ name. refl) refl
-  event_names mount is on = mount_names is on
+surface_in : Option PlainStep → ℕ
+surface_in (Some s) = s.surface
+surface_in None = 0
 
 -- a turn, of the actor and on the surface of those places
-module _ (script : PlainScript) (sound : IsSoundScript script) (desks : List Desk) (actors : List Actor) (kept : IsRunOf script (now_of desks actors)) (order : AreInOrder desks actors)
-    (number : ℕ) (actor : Actor) (at : slice_get actors number ≡ Some actor) (step : PlainStep) (left : slice_get (actor_now actor).left 0 ≡ Some step)
-    (place : ℕ) (desk : Desk) (there : slice_get desks place ≡ Some desk)
-    (found : find (λ surface. nat_eq surface.id step.surface) (map surface_now desks) ≡ Some (surface_now desk)) where
-  now_at : slice_get (map actor_now actors) number ≡ Some (actor_now actor)
-  now_at = slice_get-map actor_now actors number ∙ ap (option_map actor_now) at
+module _ (script : PlainScript) (sound : IsSoundScript script) (entries : List (ℕ × PlainDesk)) (workers : List Worker) (kept : IsRunOf script (now_of entries workers))
+    (order : AreInOrder entries workers) (number : ℕ) (worker : Worker) (at : slice_get workers number ≡ Some worker) (step : PlainStep)
+    (left : slice_get worker.actor.left 0 ≡ Some step) (place : ℕ) (desk : PlainDesk) (there : slice_get entries place ≡ Some (step.surface, desk)) where
+  now_at : slice_get (map worker_now workers) number ≡ Some (worker_now worker)
+  now_at = slice_get-map worker_now workers number ∙ ap (option_map worker_now) at
 
-  surface_at : slice_get (map surface_now desks) place ≡ Some (surface_now desk)
-  surface_at = slice_get-map surface_now desks place ∙ ap (option_map surface_now) there
-
-  first_of : (steps : List PlainStep) → slice_get steps 0 ≡ Some step → (rest : List PlainStep) × (steps ≡ step ∷ rest)
-  first_of [] e = absurd (none-some step e)
-  first_of (s ∷ rest) e = (rest, ap (λ s. s ∷ rest) (same_Some s step e))
+  surface_at : slice_get (map surface_now entries) place ≡ Some (surface_now (step.surface, desk))
+  surface_at = slice_get-map surface_now entries place ∙ ap (option_map surface_now) there
 
   rest : List PlainStep
-  rest = (first_of (actor_now actor).left left).0
+  rest = (first_of step worker.actor.left left).0
 
-  left_is : (actor_now actor).left ≡ step ∷ rest
-  unfolding rest first_of
-  left_is = (first_of (actor_now actor).left left).1
+  left_is : worker.actor.left ≡ step ∷ rest
+  unfolding rest
+  left_is = (first_of step worker.actor.left left).1
 
-  own : (script_actor : PlainActor) × IsAtStep script (map actor_now actors) number script_actor (actor_now actor) step rest
-  own = at_step script sound (now_of desks actors) kept number (actor_now actor) step rest now_at left_is
+  own : (script_actor : PlainActor) × IsAtStep script (map worker_now workers) number script_actor (worker_now worker) step rest
+  own = at_step script sound (now_of entries workers) kept number (worker_now worker) step rest now_at left_is
 
-  on : step.surface ≡ desk.id
-  on = sym (eqb-true desk.id step.surface (all_found (λ s. nat_eq s.id step.surface) (λ s. Unit {0}) (map surface_now desks) (surface_now desk) (all_true (λ s. Unit {0}) (λ s. tt) (map surface_now desks)) found).1)
+  distinct : IsDistinct nat_eq (map (λ (s : SurfaceNow). s.id) (map surface_now entries))
+  distinct = subst (IsDistinct nat_eq) (sym (same_ids script.surfaces (map surface_now entries) kept.surfaces)) sound.ids_differ
 
-  distinct : IsDistinct nat_eq (map (λ (s : SurfaceNow). s.id) (map surface_now desks))
-  distinct = subst (IsDistinct nat_eq) (sym (same_ids script.surfaces (map surface_now desks) kept.surfaces)) sound.ids_differ
+  surface_kept : IsSurfaceKept script (map worker_now workers) (surface_now (step.surface, desk))
+  surface_kept = all_there (IsSurfaceKept script (map worker_now workers)) (map surface_now entries) place (surface_now (step.surface, desk)) kept.kept surface_at
 
-  surface_kept : IsSurfaceKept script (map actor_now actors) (surface_now desk)
-  surface_kept = all_there (IsSurfaceKept script (map actor_now actors)) (map surface_now desks) place (surface_now desk) kept.kept surface_at
+  seat : IsSeated place (step.surface, desk) number worker
+  seat = order.seated place (step.surface, desk) number worker there at
+
+  opened : IsOpen desk
+  opened = order.open_at place (step.surface, desk) there
+
+  needs : (act : PlainAct) → step.act ≡ act → HasNeeds (told_with seat.pass desk) desk.mount act
+  needs (commit op) is =
+      omega (
+        arith,
+        order.room_at place (step.surface, desk) there,
+        left_at_least step.surface (map worker_now workers) number (worker_now worker) now_at,
+        one_fewer step.surface op worker.actor.left (left ∙ (λ i. Some (record { surface = step.surface; act = is i }))),
+      )
+  needs hold is = tt
+  needs mount is =
+      let base : ℕ = opened.coordinator.base.number in
+      let mounted : number_mounted step.surface worker.actor.answers ≡ base =
+      surface_kept.mounters number own.0 (worker_now worker) own.1.script_at now_at (own_mount script (map worker_now workers) number own.0 (worker_now worker) step rest own.1 step.surface is refl)
+      ∙ ap base_of opened.mounted in
+      let low : base ≤ seat.pass.seen = omega (arith, mounted, seat.mounted) in
+      subst (MayMount (told_with seat.pass desk)) (sym opened.mounted)
+      (subst (λ l. IsBaseOf desk.port.spine.first opened.coordinator.base l) (sym (take-take base seat.pass.seen (desk_records desk) low)) opened.base)
 
   -- the event may take place
-  pub may_go_on : MayGoOn place step.act desk actor
-  may_go_on = record {
-    at = left ∙ (λ i. Some (record { surface = on i; act = step.act }));
-    in_range = (own_in_range script sound (now_of desks actors) kept number own.0 (actor_now actor) step rest own.1).act;
-    order = (order.places place desk there).order;
-    holding = order.holding place desk number actor there at;
-    calls =
-        omega (
-          arith,
-          slice_get_within (actor_now actor).left 0 step left,
-          length-drop (length actor.answers) (map plain_step actor.steps),
-          length-map actor.steps plain_step,
-          (order.numbered number actor at).calls,
-        );
+  pub may_turn : MayTurn place desk worker
+  may_turn = record {
+    pass = seat.pass;
+    at = seat.at;
+    reached = seat.reached;
+    may = record { step = step; left = left; order = seat.order; needs = needs step.act refl };
   }
 
-  module _ (desk' : Desk) (actor' : Actor) (event : IsEventOn place step.act desk desk' actor actor') where
-    moment_is : moment (surface_now desk') (actor_now actor') ≡ after_event number step.act (surface_now desk) (actor_now actor)
-    moment_is = event.moment ∙ ap (λ number. after_event number step.act (surface_now desk) (actor_now actor)) (order.numbered number actor at).is_its
+  module _ (new : PlainDesk) (after : Worker) (turn : IsTurn place desk new worker after) where
+    changed : IsChange step.surface number step.act desk new turn.is worker.actor after.actor
+    changed =
+        change place step.surface number desk new turn.was turn.is worker after.actor opened (order.numbers number worker at) seat
+        (same_Some seat.pass turn.was (sym seat.at ∙ turn.was_at)) turn.reached turn.lasts step.act left (turn.event step left)
+
+    moment_is : moment (surface_now (step.surface, new)) (actor_now after.actor) ≡ after_event number step.act (surface_now (step.surface, desk)) (worker_now worker)
+    moment_is = changed.moment_is ∙ ap (λ number. after_event number step.act (surface_now (step.surface, desk)) (worker_now worker)) (order.numbers number worker at)
 
     -- the run after it is the machine's
-    pub turned_now : now_of (slice_set desks place desk') (slice_set actors number actor') ≡ after_turn (now_of desks actors) number
+    pub turned_now : now_of (slice_set entries place (step.surface, new)) (slice_set workers number after) ≡ after_turn (now_of entries workers) number
     turned_now =
-        let run : RunNow = now_of desks actors in
-        let now : ActorNow = actor_now actor in
-        let surfaces : map (λ (s : SurfaceNow). cond (nat_eq s.id desk'.id) (surface_now desk') s) (map surface_now desks) ≡ map surface_now (slice_set desks place desk') =
-        set_by_id (map surface_now desks) place (surface_now desk) (surface_now desk') distinct surface_at event.id ∙ sym (map-set surface_now desks place desk') in
-        (λ i. record { surfaces = sym surfaces i; actors = map-set actor_now actors number actor' i })
+        let run : RunNow = now_of entries workers in
+        let now : ActorNow = worker_now worker in
+        let found : find (λ surface. nat_eq surface.id step.surface) (map surface_now entries) ≡ Some (surface_now (step.surface, desk)) =
+        find_at (map surface_now entries) place step.surface (surface_now (step.surface, desk)) distinct surface_at refl in
+        let surfaces : map (λ (s : SurfaceNow). cond (nat_eq s.id step.surface) (surface_now (step.surface, new)) s) (map surface_now entries) ≡ map surface_now (slice_set entries place (step.surface, new)) =
+        set_by_id (map surface_now entries) place (surface_now (step.surface, desk)) (surface_now (step.surface, new)) distinct surface_at refl
+        ∙ sym (map-set surface_now entries place (step.surface, new)) in
+        (λ i. record { surfaces = sym surfaces i; actors = map-set worker_now workers number after i })
         ∙ ap (with_moment run number) moment_is
         ∙ sym (ap (after_event_on run number now step.act) found)
         ∙ sym (ap (after_event_by run number now) left_is)
         ∙ sym (ap (after_event_of run number) now_at)
 
-    names : passages_named desk.id (parts_of (map actor_now (slice_set actors number actor')))
-        ≡ passages_named desk.id (parts_of (map actor_now actors)) ++ passages_at actor.number step.act (surface_now desk) (actor_now actor)
-    names =
-        ap (λ l. passages_named desk.id (parts_of l)) (map-set actor_now actors number actor' ∙ ap (λ (m : Moment). slice_set (map actor_now actors) number m.actor) moment_is)
-        ∙ event_names script (map actor_now actors) number own.0 (actor_now actor) step rest own.1 (surface_now desk)
-        (all_there (λ s. count_by (mounts_on s.id) script.actors ≤ 1) (map surface_now desks) place (surface_now desk) (one_mounter script sound (map surface_now desks) kept.surfaces) surface_at)
-        step.act refl on
-        ∙ ap (λ number. passages_named desk.id (parts_of (map actor_now actors)) ++ passages_at number step.act (surface_now desk) (actor_now actor)) (sym (order.numbered number actor at).is_its)
+    stays : StaysElsewhere step.surface (worker_now worker) (worker_now after)
+    stays =
+        subst (StaysElsewhere step.surface (worker_now worker)) (sym (ap (λ (m : Moment). m.actor) moment_is))
+        (event_elsewhere number (surface_now (step.surface, desk)) (worker_now worker) step.act)
 
-    here : IsDeskOf (slice_set actors number actor') desk'
-    here =
-        let passages : List Passage = passages_named desk.id (parts_of (map actor_now actors)) in
-        let within : last_to passages ≤ length (desk_records desk) = omega (arith, surface_kept.last, surface_kept.base, mountable_of-within (desk_records desk)) in
-        let mine : List Passage = passages_at actor.number step.act (surface_now desk) (actor_now actor) in
-        record {
-          order = event.order;
-          mounts = event.mounts
-              ∙ ap (λ l. l ++ map (mount_along desk'.size (desk_records desk')) mine)
-              ((order.places place desk there).mounts ∙ ap (λ l. map (mount_along desk.size (desk_records desk)) (passages_named desk.id l)) (parts_are actors)
-              ∙ sym (mounts-more desk.size (desk_records desk) event.more 0 passages surface_kept.forward within)
-              ∙ (λ i. map (mount_along (sym event.size i) (sym event.records i)) passages))
-              ∙ sym (map-append (mount_along desk'.size (desk_records desk')) passages mine)
-              ∙ ap (map (mount_along desk'.size (desk_records desk'))) (sym names)
-              ∙ (λ i. map (mount_along desk'.size (desk_records desk')) (passages_named (sym event.id i) (sym (parts_are (slice_set actors number actor')) i)));
-        }
+    numbers : (j : ℕ) (x : Worker) → slice_get (slice_set workers number after) j ≡ Some x → x.actor.number ≡ j
+    numbers =
+        set_cases (λ j (x : Worker). x.actor.number ≡ j) workers number worker after at
+        ((turn.elsewhere step left).number ∙ order.numbers number worker at) (λ j x off to. order.numbers j x to)
 
-    off_id : (other : ℕ) (d : Desk) → (other ≡ place → ⊥) → slice_get desks other ≡ Some d → nat_eq desk.id d.id ≡ false
+    left_now : (id : ℕ) → commits_left id (map worker_now (slice_set workers number after)) + count_by (commits_on id) worker.actor.left
+        ≡ commits_left id (map worker_now workers) + count_by (commits_on id) after.actor.left
+    left_now id =
+        ap (λ l. commits_left id l + count_by (commits_on id) worker.actor.left) (map-set worker_now workers number after)
+        ∙ left_set id (map worker_now workers) number (worker_now worker) (worker_now after) now_at
+
+    room_here : HasRoom (slice_set workers number after) (step.surface, new)
+    room_here =
+        omega (
+          arith,
+          order.room_at place (step.surface, desk) there,
+          left_now step.surface,
+          changed.room,
+          ap length changed.records,
+          length-append (desk_records desk) changed.more,
+          same_room new.port.spine.room desk.port.spine.room turn.lasts.mark,
+        )
+
+    room_beside : (d : ℕ × PlainDesk) → HasRoom workers d → HasRoom (slice_set workers number after) d
+    room_beside d room = omega (arith, room, left_now d.0, stays.left d.0)
+
+    off_id : (other : ℕ) (d : ℕ × PlainDesk) → (other ≡ place → ⊥) → slice_get entries other ≡ Some d → nat_eq step.surface d.0 ≡ false
     off_id other d off to =
-        two_ids (map surface_now desks) place other (surface_now desk) (surface_now d) distinct surface_at (slice_get-map surface_now desks other ∙ ap (option_map surface_now) to) off
+        two_ids (map surface_now entries) place other (surface_now (step.surface, desk)) (surface_now d) distinct surface_at (slice_get-map surface_now entries other ∙ ap (option_map surface_now) to) off
 
-    beside : (other : ℕ) (d : Desk) → (other ≡ place → ⊥) → slice_get desks other ≡ Some d → IsDeskOf (slice_set actors number actor') d
-    beside other d off to =
-        let was : IsDeskOf actors d = order.places other d to in
-        let same : passages_named d.id (parts_of (map actor_now (slice_set actors number actor'))) ≡ passages_named d.id (parts_of (map actor_now actors)) =
-        ap (λ l. passages_named d.id (parts_of l)) (map-set actor_now actors number actor')
-        ∙ passages_stay d.id (map actor_now actors) number (actor_now actor) (actor_now actor') now_at ((event.others d.id (off_id other d off to)).passages number) in
-        record {
-          order = was.order;
-          mounts = was.mounts
-              ∙ ap (λ l. map (mount_along d.size (desk_records d)) (passages_named d.id l)) (parts_are actors)
-              ∙ ap (map (mount_along d.size (desk_records d))) (sym same)
-              ∙ ap (λ l. map (mount_along d.size (desk_records d)) (passages_named d.id l)) (sym (parts_are (slice_set actors number actor')));
-        }
+    -- the actor on its surface
+    seat_here : IsSeated place (step.surface, new) number after
+    seat_here = record {
+      pass = turn.is;
+      at = ap (λ l. slice_get l place) turn.passes ∙ slice_get-set_same worker.passes.items place turn.is seat.pass seat.at;
+      reached = turn.reached;
+      order = turn.order step left;
+      mounted = changed.mounted;
+      mounts = changed.mounts;
+      within = changed.within;
+    }
 
     -- another actor on the same surface
-    other_holds : (a : Actor) → IsHolding place desk a → IsHolding place desk' a
-    other_holds a h =
-        let same : (n : ℕ) → n ≤ length (desk_records desk) → take n (desk_records desk') ≡ take n (desk_records desk) =
-        λ n w. ap (take n) event.records ∙ take-append-le n (desk_records desk) event.more w in
+    seat_other : (j : ℕ) (w : Worker) → IsSeated place (step.surface, desk) j w → IsSeated place (step.surface, new) j w
+    seat_other j w s =
+        let more : List PlainRecord = changed.more in
+        let low : s.pass.seen ≤ length (desk_records desk) = omega (arith, s.reached, s.pass.seen_is_reached) in
+        let same : take s.pass.seen (desk_records new) ≡ take s.pass.seen (desk_records desk) =
+        ap (take s.pass.seen) changed.records ∙ take-append-le s.pass.seen (desk_records desk) more low in
+        let long : length (desk_records desk) ≤ length (desk_records new) = omega (arith, ap length changed.records, length-append (desk_records desk) more) in
+        let lasts : Lasts (told_with s.pass desk) (told_with s.pass new) = record {
+          mark = turn.lasts.mark;
+          first = turn.lasts.first;
+          seen = record { within = omega (arith, ap length same); same = subst (λ l. take (length (take s.pass.seen (desk_records desk))) l ≡ take s.pass.seen (desk_records desk)) (sym same) (take-length (take s.pass.seen (desk_records desk))) };
+          busy = omega arith;
+          floor = omega arith;
+          reached = omega (arith, length-take s.pass.seen (desk_records new), s.pass.seen_is_reached);
+          looks = omega arith;
+        } in
         record {
-          held = h.held;
-          at = h.at;
-          within = omega (arith, h.within, ap (λ id. number_held id a.answers) event.id, ap length event.records, length-append (desk_records desk) event.more);
-          stands = subst (λ size. StandsFor size h.held (take (number_held desk'.id a.answers) (desk_records desk'))) (sym event.size)
-              (subst (StandsFor desk.size h.held) (sym (ap (λ id. take (number_held id a.answers) (desk_records desk')) event.id ∙ same (number_held desk.id a.answers) h.within)) h.stands);
-          next = λ next e op l.
-              let was : IsNext desk a op next = h.next next e op (l ∙ (λ i. Some (record { surface = event.id i; act = commit op }))) in
-              let low : next.newest.number - 1 ≤ length (desk_records desk) =
-              omega (arith, was.newest.number, length-append (take (next.newest.number - 1) (desk_records desk)) (commit_record desk.id op a ∷ []), length-take (next.newest.number - 1) (desk_records desk)) in
-              subst (λ size. StandsFor size next (take (next.newest.number - 1) (desk_records desk') ++ commit_record desk'.id op a ∷ [])) (sym event.size)
-              (subst (StandsFor desk.size next) (λ i. sym (same (next.newest.number - 1) low) i ++ commit_record (sym event.id i) op a ∷ []) was);
+          pass = s.pass;
+          at = s.at;
+          reached = omega (arith, s.reached, long);
+          order = record {
+            reached = lasts.reached;
+            holding = holding_lasts (told_with s.pass desk) (told_with s.pass new) step.surface w.actor lasts s.order.holding;
+            commit = λ op there commit e.
+                let way : IsUnderWay (told_with s.pass desk) (commit_record step.surface op w.actor) commit = s.order.commit op there commit e in
+                record { entry_is = way.entry_is; ready = ready_later (told_with s.pass desk) (told_with s.pass new) commit lasts same way.ready };
+          };
+          mounted = s.mounted;
+          mounts = s.mounts
+              ∙ sym (mounts-more desk.port.spine.first (desk_records desk) more (passages_by step.surface j w.actor.answers) s.within)
+              ∙ (λ i. map (mount_along (sym turn.lasts.first i) (sym changed.records i)) (passages_by step.surface j w.actor.answers));
+          within = within-more (length (desk_records desk)) (length (desk_records new)) (passages_by step.surface j w.actor.answers) long s.within;
         }
 
     -- the actor on another surface
-    holds_beside : (other : ℕ) (d : Desk) → (other ≡ place → ⊥) → slice_get desks other ≡ Some d → IsHolding other d actor → IsHolding other d actor'
-    holds_beside other d off to h =
-        let stays : StaysElsewhere d.id actor actor' = event.others d.id (off_id other d off to) in
+    seat_beside : (other : ℕ) (d : ℕ × PlainDesk) → (other ≡ place → ⊥) → slice_get entries other ≡ Some d → IsSeated other d number worker → IsSeated other d number after
+    unfolding surface_in
+    seat_beside other d off to s =
+        let off_here : nat_eq step.surface d.0 ≡ false = off_id other d off to in
+        let keeps : KeepsElsewhere step.surface worker.actor after.actor = turn.elsewhere step left in
+        let held : number_held d.0 after.actor.answers ≡ number_held d.0 worker.actor.answers = stays.held d.0 off_here in
+        let passages : passages_by d.0 number after.actor.answers ≡ passages_by d.0 number worker.actor.answers = stays.passages d.0 number off_here in
         record {
-          held = h.held;
-          at = event.elsewhere other off ∙ h.at;
-          within = omega (arith, stays.held, h.within);
-          stands = subst (λ n. StandsFor d.size h.held (take n (desk_records d))) (sym stays.held) h.stands;
-          next = λ next e op l.
-              let same : slice_get (actor_now actor').left 0 ≡ Some step =
-              (λ i. slice_get (drop (length (event.next next e i)) (map plain_step (event.steps i))) 0) ∙ left in
-              let surfaces : d.id ≡ step.surface = ap surface_in (sym l ∙ same) in
-              absurd (eqb-false desk.id d.id (off_id other d off to) (sym (surfaces ∙ on)));
+          pass = s.pass;
+          at = ap (λ l. slice_get l other) turn.passes ∙ slice_get-set_other worker.passes.items place other turn.is off ∙ s.at;
+          reached = s.reached;
+          order = record {
+            reached = s.order.reached;
+            holding = record {
+              revision = s.order.holding.revision;
+              held = keeps.held d.0 off_here ∙ s.order.holding.held;
+              within = omega (arith, held, s.order.holding.within);
+              stands = subst (λ n. StandsFor d.1.port.spine.first s.order.holding.revision (take n (take s.pass.seen (desk_records d.1)))) (sym held) s.order.holding.stands;
+            };
+            commit = λ op there commit e.
+                let same : slice_get after.actor.left 0 ≡ Some step = ap (λ l. slice_get l 0) (keeps.commit commit e) ∙ left in
+                let surfaces : d.0 ≡ step.surface = ap surface_in (sym there ∙ same) in
+                absurd (eqb-false step.surface d.0 off_here (sym surfaces));
+          };
+          mounted = omega (arith, stays.mounted d.0 off_here, s.mounted);
+          mounts = changed.others d.0 off_here ∙ s.mounts ∙ ap (map (mount_along d.1.port.spine.first (desk_records d.1))) (sym passages);
+          within = subst (AreWithin (length (desk_records d.1))) (sym passages) s.within;
         }
-      where
-        surface_in : Option PlainStep → ℕ
-        surface_in (Some s) = s.surface
-        surface_in None = 0
 
     -- all is in order again
-    pub turned_order : AreInOrder (slice_set desks place desk') (slice_set actors number actor')
+    pub turned_order : AreInOrder (slice_set entries place (step.surface, new)) (slice_set workers number after)
     turned_order = record {
-      numbered = set_cases IsNumbered actors number actor actor' at
-          (record { is_its = event.number ∙ (order.numbered number actor at).is_its; calls = subst (λ l. length l < 2 ^ 31) (sym event.steps) (order.numbered number actor at).calls })
-          (λ j x off to. order.numbered j x to);
-      places = set_cases (λ k d. IsDeskOf (slice_set actors number actor') d) desks place desk desk' there here beside;
-      holding = λ k d j a to on. set_cases (λ k d. IsHolding k d a) desks place desk desk' there
-          (set_cases (λ j a. IsHolding place desk' a) actors number actor actor' at event.holding (λ j a off on. other_holds a (order.holding place desk j a there on)) j a on)
-          (λ k d off to. set_cases (λ j a. IsHolding k d a) actors number actor actor' at (holds_beside k d off to (order.holding k d number actor to at)) (λ j a off on. order.holding k d j a to on) j a on)
+      numbers = numbers;
+      open_at = set_cases (λ k (d : ℕ × PlainDesk). IsOpen d.1) entries place (step.surface, desk) (step.surface, new) there changed.opened (λ k d off to. order.open_at k d to);
+      room_at = set_cases (λ k d. HasRoom (slice_set workers number after) d) entries place (step.surface, desk) (step.surface, new) there room_here (λ k d off to. room_beside d (order.room_at k d to));
+      seated = λ k d j w to on. set_cases (λ k d. IsSeated k d j w) entries place (step.surface, desk) (step.surface, new) there
+          (set_cases (λ j w. IsSeated place (step.surface, new) j w) workers number worker after at seat_here (λ j w off on. seat_other j w (order.seated place (step.surface, desk) j w there on)) j w on)
+          (λ k d off to. set_cases (λ j w. IsSeated k d j w) workers number worker after at (seat_beside k d off to (order.seated k d number worker to at)) (λ j w off on. order.seated k d j w to on) j w on)
           k d to;
     }

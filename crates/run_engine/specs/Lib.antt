@@ -1,6 +1,6 @@
 pub mod Numbers
 pub mod Now
-pub mod Actions
-pub mod Event
+pub mod Turns
 pub mod Run
 pub mod Ends
+pub mod Opening

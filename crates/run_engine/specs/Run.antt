@@ -1,36 +1,70 @@
 -- How far a run has come.
-use Rattle.std.specs.Prelude.{◌≡◌, ℕ, ◌<◌, ◌^◌, length, map, slice_get, Some}
-use Rattle.tree_revision.specs.Script.{PlainScript}
+use Rattle.std.specs.Prelude.{◌≡◌, ℕ, ◌+◌, ◌≤◌, List, [], ◌∷◌, length, map, filter, count_by, Bool, true, false, ◌&&◌, nat_eq, slice_get, Some}
+use Rattle.std.specs.List.{AllByRecursion, fold}
+use Rattle.tree_revision.specs.Script.{PlainAct, commit, PlainStep, PlainScript}
 use Rattle.tree_revision.specs.Sound.{IsSoundScript}
-use Rattle.run_report.specs.Journal.{plain_mount}
-use Rattle.run_report.specs.Mounts.{mount_along}
-use Rattle.run_report.specs.Shorthands.{passages_named}
-use Rattle.run_report.specs.Machine.{actor_part_of, after_turn, run_of}
-use Rattle.std.specs.List.{fold}
-use Rattle.std.specs.Prelude.{List}
-use Rattle.run_engine.specs.declared.desks.Desk.{Desk}
-use Rattle.run_engine.specs.declared.actors.Actor.{Actor}
+use Rattle.commit_core.specs.declared.plain_parts.PlainPass.{PlainPass}
+use Rattle.mount_coordinator.specs.Mounted.{PlainCoordinator, IsBaseIn}
+use Rattle.run_report.specs.declared.journal.MountPart.{MountPart}
+use Rattle.run_report.specs.Journal.{PlainMount, plain_mount}
+use Rattle.run_report.specs.Mounts.{Passage, passages_by, mount_along}
+use Rattle.run_report.specs.Shorthands.{number_mounted}
+use Rattle.run_report.specs.Machine.{ActorNow, after_turn, run_of}
+use Rattle.run_engine.specs.declared.workers.Worker.{Worker}
 use Rattle.run_engine.specs.declared.runs.Run.{Run}
-use Rattle.run_engine.specs.Now.{desk_records, actor_now, run_now}
-use Rattle.run_engine.specs.Event.{IsInOrder, IsHolding}
+use Rattle.run_actor.specs.Event.{IsInOrder}
+use Rattle.run_engine.specs.Now.{PlainDesk, desk_records, told_with, worker_now, run_now}
 
--- an actor stands at its number, and each of its steps has a number
-pub record IsNumbered (number : ℕ) (actor : Actor) : Type 0 where
-  pub is_its : actor.number ≡ number
-  pub calls : length actor.steps < 2 ^ 31
+-- a step commits
+abbrev pub is_commit : PlainAct → Bool
+is_commit (commit op) = true
+is_commit _ = false
 
--- a surface is in order, and its mounts lie along the passages that the answers name
-pub record IsDeskOf (actors : List Actor) (desk : Desk) : Type 0 where
-  pub order : IsInOrder desk
-  pub mounts : map plain_mount desk.mounts
-      ≡ map (mount_along desk.size (desk_records desk)) (passages_named desk.id (map (λ actor. actor_part_of (actor_now actor)) actors))
+-- a step commits on the surface of that id
+abbrev pub commits_on : (id : ℕ) → PlainStep → Bool
+commits_on id step = nat_eq step.surface id && is_commit step.act
+
+-- how many commits on the surface of that id some actors have left
+abbrev pub commits_left : (id : ℕ) → List ActorNow → ℕ
+commits_left id [] = 0
+commits_left id (actor ∷ actors) = count_by (commits_on id) actor.left + commits_left id actors
+
+-- the mounts on the surface of that id, as the journal tells them
+abbrev pub mounts_on : (id : ℕ) → List (ℕ × MountPart) → List PlainMount
+mounts_on id mounts = map (λ entry. plain_mount entry.1) (filter (λ entry. nat_eq entry.0 id) mounts)
+
+-- passages between revisions of no more than so many records
+abbrev pub AreWithin : (count : ℕ) → List Passage → Type 0
+AreWithin count passages = AllByRecursion (λ step. (step.base ≤ count) × (step.to ≤ count)) passages
+
+-- a surface is mounted, and its base stands for the first of its records
+pub record IsOpen (desk : PlainDesk) : Type 0 where
+  pub coordinator : PlainCoordinator
+  pub mounted : desk.mount ≡ Some coordinator
+  pub base : IsBaseIn desk.port.spine.first (desk_records desk) coordinator.base
+
+-- there is room for the commits on a surface that the actors have left
+abbrev pub HasRoom : List Worker → ℕ × PlainDesk → Type 0
+HasRoom workers entry = length (desk_records entry.1) + commits_left entry.0 (map worker_now workers) ≤ entry.1.port.spine.room
+
+-- an actor of that number is in order at the surface of that place: with its pass there it is in order, and its mounts there lie along the passages that its answers name
+pub record IsSeated (place : ℕ) (entry : ℕ × PlainDesk) (number : ℕ) (worker : Worker) : Type 0 where
+  pub pass : PlainPass
+  pub at : slice_get worker.passes.items place ≡ Some pass
+  pub reached : pass.floor ≤ length (desk_records entry.1)
+  pub order : IsInOrder (told_with pass entry.1) entry.0 worker.actor
+  pub mounted : number_mounted entry.0 worker.actor.answers ≤ pass.seen
+  pub mounts : mounts_on entry.0 worker.actor.mounts
+      ≡ map (mount_along entry.1.port.spine.first (desk_records entry.1)) (passages_by entry.0 number worker.actor.answers)
+  pub within : AreWithin (length (desk_records entry.1)) (passages_by entry.0 number worker.actor.answers)
 
 -- surfaces and actors are in order, each actor with each surface
-pub record AreInOrder (desks : List Desk) (actors : List Actor) : Type 0 where
-  pub numbered : (number : ℕ) (actor : Actor) → slice_get actors number ≡ Some actor → IsNumbered number actor
-  pub places : (place : ℕ) (desk : Desk) → slice_get desks place ≡ Some desk → IsDeskOf actors desk
-  pub holding : (place : ℕ) (desk : Desk) (number : ℕ) (actor : Actor) → slice_get desks place ≡ Some desk → slice_get actors number ≡ Some actor
-      → IsHolding place desk actor
+pub record AreInOrder (entries : List (ℕ × PlainDesk)) (workers : List Worker) : Type 0 where
+  pub numbers : (number : ℕ) (worker : Worker) → slice_get workers number ≡ Some worker → worker.actor.number ≡ number
+  pub open_at : (place : ℕ) (entry : ℕ × PlainDesk) → slice_get entries place ≡ Some entry → IsOpen entry.1
+  pub room_at : (place : ℕ) (entry : ℕ × PlainDesk) → slice_get entries place ≡ Some entry → HasRoom workers entry
+  pub seated : (place : ℕ) (entry : ℕ × PlainDesk) (number : ℕ) (worker : Worker) → slice_get entries place ≡ Some entry → slice_get workers number ≡ Some worker
+      → IsSeated place entry number worker
 
 -- a run of a script has come through these turns
 pub record HasCome (run : Run) : Type 0 where
@@ -38,7 +72,7 @@ pub record HasCome (run : Run) : Type 0 where
   pub sound : IsSoundScript script
   pub turns : List ℕ
   pub now : run_now run ≡ fold after_turn (run_of script) turns
-  pub order : AreInOrder run.desks.items run.actors.items
+  pub order : AreInOrder run.desks.entries run.workers.items
 
 -- a run has taken one more turn, of the actor of that number
 pub record HasTurned (old new : Run) (number : ℕ) : Type 0 where

@@ -1,80 +1,45 @@
 //! A surface in a run.
 
-ghost use Rattle.std.specs.Prelude.{◌≡◌, [], List, IfOk, map};
-ghost use Rattle.tree_settle.specs.Limits.{IsSizeInRange};
-ghost use Rattle.script_read.specs.Plain.{plain_surface};
-ghost use Rattle.run_report.specs.Journal.{plain_mount, plain_surface_part};
-ghost use Rattle.run_report.specs.Shorthands.{opened};
-ghost use Rattle.run_report.specs.Mounts.{Passage, closed, last_to, mount_along};
-ghost use Rattle.shadow_frame.specs.declared.Size.{Size as SurfaceSize};
-ghost use Rattle.tree_revision.specs.Records.{PlainRecord};
-ghost use Rattle.tree_revision.specs.Stands.{StandsFor};
-ghost use Rattle.mount_coordinator.specs.Mounted.{IsBaseIn};
+ghost use Rattle.std.specs.Prelude.{IfOk};
 ghost use Rattle.mount_coordinator.specs.Answers.{MayFinish};
-ghost use Rattle.run_engine.specs.Ends.{part_along};
-ghost use Rattle.run_engine.specs.Event.{IsInOrder};
-ghost use Rattle.run_engine.specs.Now.{desk_records, surface_now};
+ghost use Rattle.run_engine.specs.Run.{IsOpen};
+ghost use Rattle.run_engine.specs.Ends.{AreClosed, IsPartOf};
 
 use crate::parts::mount_part;
+use commit_core::PlainPort;
 use host_views::HostTree;
 use mount_coordinator::Coordinator;
 use run_report::{MountPart, SurfacePart};
-use script_read::SurfacePlan;
-use shadow_frame::Size;
 use sqlite_items::Items;
 use std::alloc::{AllocError, Global};
-use tree_revision::{Record, Revision};
+use tree_revision::{Port, Revision};
 use view_flatten::flatten;
 
-/// A surface in a run: its history, and what stands mounted.
+/// A surface in a run, as one holder has it: its history, and what stands mounted where it mounts.
 #[derive(Drop)]
-pub(crate) struct Desk {
-    /// The surface's id.
-    pub(crate) id: u32,
-    /// The surface's first size.
-    pub(crate) size: Size,
-    /// The newest revision.
-    pub(crate) front: Revision,
-    /// The admitted commits, in order.
-    pub(crate) records: Items<Record>,
-    pub(crate) coordinator: Coordinator,
-    /// The mounts so far, in order.
-    pub(crate) mounts: Items<MountPart>,
+pub struct Desk<P: Port> {
+    pub port: P,
+    pub mount: Option<Coordinator>,
 }
 
-impl Desk {
-    /// A surface before its first commit.
-    pub(crate) fn start(alloc: Global, plan: &SurfacePlan) -> Result<Desk, AllocError>
-        requires { IsSizeInRange plan.now.size }
-        ensures now { IfOk result (λ desk. surface_now desk ≡ opened (plain_surface plan.now)) }
-        ensures order { IfOk result IsInOrder }
-        ensures mounts { IfOk result (λ desk. desk.mounts ≡ []) }
+impl Desk<PlainPort> {
+    /// After the last event: the surface's part of the journal, with these mounts and the closing
+    /// one. Nothing is copied.
+    pub(crate) fn finish(
+        self,
+        alloc: Global,
+        id: u32,
+        mounts: Items<MountPart>,
+    ) -> Result<SurfacePart, AllocError>
+        requires { IsOpen self }
+        ensures { IfOk result (IsPartOf id self mounts) }
     {
-        let front = Revision::opening(alloc, plan.size)?;
-        let coordinator = Coordinator::start(alloc, front.share()?)?;
-        Ok(Desk {
-            id: plan.id,
-            size: plan.size,
-            front,
-            records: Items::new(alloc),
-            coordinator,
-            mounts: Items::new(alloc),
-        })
-    }
-
-    /// After the last event: the closing mount, and the last views.
-    pub(crate) fn finish(self, alloc: Global) -> Result<SurfacePart, AllocError>
-        requires { IsInOrder self }
-        ensures { IfOk result (λ part. (passages : List Passage) → last_to passages ≡ self.coordinator.base.number → map plain_mount self.mounts ≡ map (mount_along self.size (desk_records self)) passages → plain_surface_part part ≡ part_along passages (surface_now self)) }
-    {
-        let Desk {
-            id,
-            size: _,
-            front,
-            records,
-            coordinator,
-            mounts,
-        } = self;
+        let Desk { port, mount } = self;
+        let Some(coordinator) = mount else {
+            unreachable!()
+        };
+        let (spine, _) = port.parts();
+        let (records, front) = spine.into_parts();
         let mounts = with_closing(alloc, coordinator, front.share()?, mounts)?;
         let next = front.mountable()?;
         let HostTree { views: last } = flatten(alloc, next.forest())?;
@@ -95,7 +60,7 @@ fn with_closing(
     mut mounts: Items<MountPart>,
 ) -> Result<Items<MountPart>, AllocError>
     requires { MayFinish coordinator front }
-    ensures { IfOk result (λ all. (first : SurfaceSize) (records : List PlainRecord) (passages : List Passage) → StandsFor first front records → IsBaseIn first records coordinator.base → last_to passages ≡ coordinator.base.number → map plain_mount mounts ≡ map (mount_along first records) passages → map plain_mount all ≡ map (mount_along first records) (closed records passages)) }
+    ensures { IfOk result (AreClosed front coordinator.base mounts) }
 {
     match coordinator.finish(alloc, front)? {
         None => Ok(mounts),

@@ -9,13 +9,18 @@ ghost use Rattle.run_report.specs.Machine.{journal_of_turns};
 ghost use Rattle.run_report.specs.Named.{NamesItsActors};
 ghost use Rattle.run_engine.specs.Numbers.{IsWithinNumbers};
 
-mod actors;
 mod desks;
 mod gate;
+mod opening;
 mod parts;
 mod runs;
+#[cfg(test)]
+mod tests;
+mod workers;
 
+pub use desks::Desk;
 pub use gate::{FreeGate, Gate};
+pub use run_actor::{Actor, Event};
 use run_report::Journal;
 use run_report::laws::journals_of_turns_are_legal;
 use runs::Run;

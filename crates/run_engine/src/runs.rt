@@ -1,48 +1,49 @@
 //! A run of a script by its list of turns.
 
-ghost use Rattle.std.specs.Prelude.{◌≡◌, ◌<◌, ◌^◌, ◌++◌, All, IfOk, IfSome, OnOk, length, map, nat_eq, replicate, slice_get};
-ghost use Rattle.std.specs.List.{find, fold};
-ghost use Rattle.std.specs.Option.{option_and_then, option_map};
-ghost use Rattle.tree_revision.specs.InRange.{IsSurfaceInRange};
+ghost use Rattle.std.specs.Prelude.{◌≡◌, ◌++◌, [], IfOk, OnOk, length, nat_eq, replicate};
+ghost use Rattle.std.specs.List.{AllByRecursion, IsDistinct, fold};
+ghost use Rattle.indexmap.specs.IndexMap.{keys};
 ghost use Rattle.tree_revision.specs.Sound.{IsSoundScript};
-ghost use Rattle.script_read.specs.Plain.{plain_actor, plain_script, plain_surface};
+ghost use Rattle.script_read.specs.Plain.{plain_script};
 ghost use Rattle.run_report.specs.Journal.{plain_journal};
 ghost use Rattle.run_report.specs.Machine.{after_turn, ending_turns, journal_at_end, run_of};
-ghost use Rattle.run_report.specs.Shorthands.{opened};
-ghost use Rattle.run_engine.specs.Ends.{AreBegun, AreOpened};
-ghost use Rattle.run_engine.specs.Now.{run_now, surface_now};
+ghost use Rattle.run_engine.specs.Ends.{ArePartsOf, HaveJoined};
+ghost use Rattle.run_engine.specs.Now.{run_now};
 ghost use Rattle.run_engine.specs.Numbers.{IsWithinNumbers};
-ghost use Rattle.run_engine.specs.Run.{HasCome, HasTurned};
+ghost use Rattle.run_engine.specs.Run.{HasCome, HasTurned, IsOpen};
 
-use crate::actors::Actor;
 use crate::desks::Desk;
-use crate::parts::share_act;
-use run_report::Journal;
-use script_read::{ActorPlan, Script, Step, SurfacePlan};
+use crate::opening::{desks_of, openings_of, spines_of, workers_of};
+use crate::workers::Worker;
+use commit_core::PlainPort;
+use indexmap::IndexMap;
+use run_report::{Journal, MountPart, SurfacePart};
+use script_read::Script;
 use shadow_node::Made;
 use sqlite_items::Items;
 use std::alloc::{AllocError, Global};
 
-/// A run: its surfaces and its actors, in the script's order.
+/// A run: its surfaces by their ids, and its actors, in the script's order.
 #[derive(Drop)]
-pub(crate) struct Run {
-    pub(crate) desks: Vec<Desk>,
-    pub(crate) actors: Vec<Actor>,
+pub(crate) struct Run<'a> {
+    pub(crate) desks: IndexMap<u32, Desk<PlainPort>>,
+    pub(crate) workers: Vec<Worker<'a>>,
 }
 
-impl Run {
-    /// Before the first turn.
-    pub(crate) fn start(alloc: Global, script: &Script) -> Result<Run, AllocError>
+impl<'a> Run<'a> {
+    /// Before the first turn. There is room for as many records as the actors have commits.
+    pub(crate) fn start(alloc: Global, script: &'a Script) -> Result<Run<'a>, AllocError>
         requires sound { IsSoundScript (plain_script script.now) }
         requires numbers { IsWithinNumbers (plain_script script.now) }
         ensures come { IfOk result HasCome }
         ensures now { IfOk result (λ run. run_now run ≡ run_of (plain_script script.now)) }
     {
-        let surfaces = script.surfaces.as_slice();
-        Ok(Run {
-            desks: desks_of(alloc, surfaces)?,
-            actors: actors_of(alloc, surfaces, script.actors.as_slice())?,
-        })
+        let first = openings_of(alloc, script.surfaces.as_slice())?;
+        let actors = script.actors.as_slice();
+        let spines = spines_of(alloc, actors, &first)?;
+        let workers = workers_of(alloc, actors, &first, &spines)?;
+        let desks = desks_of(alloc, &first, spines)?;
+        Ok(Run { desks, workers })
     }
 
     /// One turn: one event of the actor of that number, where it has a step left.
@@ -55,17 +56,19 @@ impl Run {
         requires { HasCome self.old }
         ensures { OnOk result (HasTurned self.old self.new number) }
     {
-        if number >= self.actors.len() {
+        if number >= self.workers.len() {
             return Ok(());
         }
-        let Some(step) = self.actors[number].step() else {
+        let Some(id) = self.workers[number].actor.next() else {
             return Ok(());
         };
-        let Some(place) = desk_place(&self.desks, step.surface) else {
+        let Some(place) = self.desks.get_index_of(&id) else {
             return Ok(());
         };
-        let act = share_act(&step.act)?;
-        self.actors[number].event(alloc, made, &act, place, &mut self.desks[place])
+        let Some(desk) = self.desks.get_index_mut(place) else {
+            unreachable!()
+        };
+        self.workers[number].turn(alloc, made, place, desk)
     }
 
     /// So many turns of the actor of that number.
@@ -109,67 +112,71 @@ impl Run {
         Ok(())
     }
 
-    /// The journal, after the last turn.
+    /// The journal, after the last turn. Records and mounts are moved into it.
     pub(crate) fn finish(self, alloc: Global) -> Result<Journal, AllocError>
         requires { HasCome self }
-        ensures { IfOk result (λ journal. plain_journal journal ≡ journal_at_end (run_now self)) }
+        ensures { IfOk result (λ journal. plain_journal journal ≡ journal_at_end (run_now self.entry)) }
     {
-        let Run { desks, actors } = self;
-        let mut surfaces = Items::new(alloc);
-        for desk in desks {
-            surfaces.push(desk.finish(alloc)?)?;
+        let Run { desks, workers } = self;
+        let mut mounts = no_mounts(alloc, desks.len())?;
+        let mut actors = Items::new(alloc);
+        for worker in workers {
+            let (part, own) = worker.actor.into_parts(alloc)?;
+            actors.push(part)?;
+            sort_out(&desks, &mut mounts, own)?;
         }
-        let mut parts = Items::new(alloc);
-        for actor in actors {
-            parts.push(actor.finish())?;
-        }
-        Ok(Journal {
-            surfaces,
-            actors: parts,
-        })
+        let surfaces = surface_parts(alloc, desks, mounts)?;
+        Ok(Journal { surfaces, actors })
     }
 }
 
-/// The place of the surface of that id.
-fn desk_place(desks: &[Desk], id: u32) -> Option<usize>
-    ensures found { find (λ surface. nat_eq surface.id id) (map surface_now desks.now) ≡ option_and_then (λ place. option_map surface_now (slice_get desks.now place)) result }
-    ensures within { IfSome result (λ place. place < length desks.now) }
+/// An empty list of mounts for each of so many surfaces.
+fn no_mounts(alloc: Global, count: usize) -> Result<Vec<Items<MountPart>>, AllocError>
+    ensures { IfOk result (λ lists. lists.items ≡ replicate count []) }
 {
-    for place in 0..desks.len() {
-        if desks[place].id == id {
-            return Some(place);
+    let mut lists = Vec::with_capacity(alloc, count)?;
+    for _surface in 0..count {
+        lists.push(Items::new(alloc))?;
+    }
+    Ok(lists)
+}
+
+/// Puts the mounts of an actor behind those of their surfaces, whose lists stand in their order.
+fn sort_out(
+    desks: &IndexMap<u32, Desk<PlainPort>>,
+    lists: &mut Vec<Items<MountPart>>,
+    own: Vec<(u32, MountPart)>,
+) -> Result<(), AllocError>
+    requires ids { IsDistinct nat_eq (keys desks.now) }
+    requires lists { length lists.old.items ≡ length (keys desks.now) }
+    ensures count { OnOk result (length lists.new.items ≡ length (keys desks.now)) }
+    ensures joined { OnOk result (HaveJoined own.items (keys desks.now) lists.old.items lists.new.items) }
+{
+    for (id, part) in own {
+        if let Some(place) = desks.get_index_of(&id) {
+            lists[place].push(part)?;
         }
     }
-    None
+    Ok(())
 }
 
-/// Each surface before its first commit.
-fn desks_of(alloc: Global, surfaces: &[SurfacePlan]) -> Result<Vec<Desk>, AllocError>
-    requires { All IsSurfaceInRange (map plain_surface surfaces.now) }
-    ensures now { IfOk result (λ desks. map surface_now desks.items ≡ map opened (map plain_surface surfaces.now)) }
-    ensures order { IfOk result (λ desks. AreOpened desks.items) }
-{
-    let mut desks = Vec::new(alloc);
-    for surface in surfaces {
-        desks.push(Desk::start(alloc, surface)?)?;
-    }
-    Ok(desks)
-}
-
-/// Each actor before its first step.
-fn actors_of(
+/// Each surface's part of the journal, with the mounts that stand at its place.
+fn surface_parts(
     alloc: Global,
-    surfaces: &[SurfacePlan],
-    plans: &[ActorPlan],
-) -> Result<Vec<Actor>, AllocError>
-    requires surfaces { All IsSurfaceInRange (map plain_surface surfaces.now) }
-    requires count { length plans.now < 2 ^ 31 }
-    requires calls { All (λ actor. length actor.steps < 2 ^ 31) (map plain_actor plans.now) }
-    ensures { IfOk result (λ actors. AreBegun (map plain_surface surfaces.now) (map plain_actor plans.now) actors.items) }
+    desks: IndexMap<u32, Desk<PlainPort>>,
+    lists: Vec<Items<MountPart>>,
+) -> Result<Items<SurfacePart>, AllocError>
+    requires mounted { AllByRecursion (λ entry. IsOpen entry.1) desks.entries }
+    requires lists { length lists.items ≡ length desks.entries }
+    ensures { IfOk result (ArePartsOf desks.entries lists.items) }
 {
-    let mut actors = Vec::new(alloc);
-    for number in 0..plans.len() {
-        actors.push(Actor::start(alloc, number as u32, &plans[number], surfaces)?)?;
+    let mut parts = Items::new(alloc);
+    let mut lists = lists.into_iter();
+    for (id, desk) in desks {
+        let Some(mounts) = lists.next() else {
+            unreachable!()
+        };
+        parts.push(desk.finish(alloc, id, mounts)?)?;
     }
-    Ok(actors)
+    Ok(parts)
 }

@@ -1,5 +1,5 @@
-use Rattle.std.proofs.Common.{◌∙◌, ap, subst, sym}
-use Rattle.std.specs.Prelude.{Some, slice_get}
+use Rattle.std.proofs.Common.{◌∙◌, ap, sym}
+use Rattle.std.specs.Prelude.{slice_get}
 use Rattle.tree_revision.specs.Records.{plain_op}
 use Rattle.run_actor.specs.Actors.{RunningActor}
 use Rattle.run_actor.proofs.Commits.{may_go_on, begun_may, holding_taken, gone_before, gone_begun, gone_nowhere}

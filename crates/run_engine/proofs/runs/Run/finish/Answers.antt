@@ -1,19 +1,48 @@
-use Rattle.std.proofs.Common.{◌≡◌, length, slice_get}
-use Rattle.std.specs.Prelude.{Some}
-use Rattle.run_engine.proofs.Finishing.{at_yielded, yielded_next, part_is, parts_next}
+use Rattle.std.proofs.Common.{◌≡◌, List, map, arith, ap, sym, subst, ◌∙◌}
+use Rattle.indexmap.specs.IndexMap.{keys}
+use Rattle.run_report.specs.Journal.{plain_actor_part}
+use Rattle.run_report.specs.Machine.{actor_part_of}
+use Rattle.run_engine.specs.declared.workers.Worker.{Worker}
+use Rattle.run_engine.specs.Now.{worker_now}
+use Rattle.run_engine.specs.Ends.{AreListed, all_mounts_on}
+use Rattle.run_engine.proofs.Finishing.{yielded_next}
+use Rattle.run_engine.proofs.Gathered.{lists_begun, keys_length, ids_apart, all_open, all_along, named, actors_next, gathered_next, all_came}
 use Rattle.run_engine.proofs.runs.Run.finish.Goals as goal
 
-pub finish-requires : goal.finish-requires
-finish-requires c =
-    (c.requires.order.places (length c.loop-desk.yielded) c.in-Some.desk
-    (at_yielded c.args.self.desks.items c.loop-desk.yielded c.loop-desk.desk-iterator.rest.items c.next.new.self.rest.items c.in-Some.desk c.loop-desk.invariant.0 c.in-Some.ensures.steps.0)).order
-
-pub loop-desk-preserved : goal.loop-desk-preserved
-loop-desk-preserved c =
-    let at : slice_get c.args.self.desks.items (length c.loop-desk.yielded) ≡ Some c.in-Some.desk
-    = at_yielded c.args.self.desks.items c.loop-desk.yielded c.loop-desk.desk-iterator.rest.items c.next.new.self.rest.items c.in-Some.desk c.loop-desk.invariant.0 c.in-Some.ensures.steps.0
-    in (
-      yielded_next c.args.self.desks.items c.loop-desk.yielded c.loop-desk.desk-iterator.rest.items c.next.new.self.rest.items c.in-Some.desk c.loop-desk.invariant.0 c.in-Some.ensures.steps.0,
-      parts_next c.args.self c.requires (length c.loop-desk.yielded) c.in-Some.desk at c.loop-desk.yielded c.loop-desk.surfaces c.push.new.self c.in_ok-finish.field-0 c.loop-desk.invariant.1
-          c.in_ok-push.ensures.ok (part_is c.args.self c.requires (length c.loop-desk.yielded) c.in-Some.desk at c.in_ok-finish.field-0 c.in_ok-finish.ensures),
+pub loop-worker-init : goal.loop-worker-init
+loop-worker-init c =
+    let begun =
+    lists_begun (keys c.args.self.desks) c.len.result c.in_ok-mounts.mounts.items (omega (arith, c.len.ensures.len, keys_length c.args.self.desks.entries)) c.in_ok-mounts.ensures in (
+      sym c.into_iter-worker-iterator.ensures.into_iter_gives.0,
+      ap (map plain_actor_part) c.new-actors.ensures,
+      begun.0,
+      begun.1,
     )
+
+pub sort_out-requires-clause-ids : goal.sort_out-requires-clause-ids
+sort_out-requires-clause-ids c = ids_apart c.args.self c.requires
+
+pub loop-worker-preserved : goal.loop-worker-preserved
+loop-worker-preserved c = (
+  yielded_next c.args.self.workers.items c.loop-worker.yielded c.loop-worker.worker-iterator.rest.items c.next.new.self.rest.items c.in-Some.worker c.loop-worker.invariant.0
+      c.in-Some.ensures.steps.0,
+  actors_next c.loop-worker.yielded c.in-Some.worker c.loop-worker.actors c.push.new.self c.in_ok-part.part c.loop-worker.invariant.1 c.in_ok-push.ensures.ok c.in_ok-part.ensures.part,
+  c.in_ok-sort_out.ensures.count,
+  gathered_next c.loop-worker.yielded c.in-Some.worker c.in_ok-part.own.items (keys c.args.self.desks) c.sort_out.new.lists.items c.in_ok-part.ensures.mounts
+      (c.in_ok-sort_out.ensures.joined (λ id. all_mounts_on id c.loop-worker.yielded) c.loop-worker.invariant.3),
+)
+
+pub surface_parts-requires-clause-mounted : goal.surface_parts-requires-clause-mounted
+surface_parts-requires-clause-mounted c = all_open c.args.self c.requires
+
+pub returns : goal.returns
+returns c =
+    let whole : c.args.self.workers.items ≡ c.loop-worker.yielded =
+    all_came c.args.self.workers.items c.loop-worker.yielded c.loop-worker.worker-iterator.rest.items c.loop-worker.invariant.0
+    (omega (arith, c.loop-worker.worker-iterator.rest.ok.0, c.in-None.ensures.steps.0)) in
+    let listed : AreListed (λ id. all_mounts_on id c.args.self.workers.items) (keys c.args.self.desks) c.loop-worker.mounts.items =
+    subst (λ (workers : List Worker). AreListed (λ id. all_mounts_on id workers) (keys c.args.self.desks) c.loop-worker.mounts.items) (sym whole) c.loop-worker.invariant.3 in
+    λ i. record {
+      surfaces = c.in_ok-surfaces.ensures (named c.args.self c.requires) (all_along c.args.self c.requires c.loop-worker.mounts.items listed) i;
+      actors = (c.loop-worker.invariant.1 ∙ ap (λ (l : List Worker). map actor_part_of (map worker_now l)) (sym whole)) i;
+    }

@@ -13,7 +13,7 @@ overflow_mul-len c =
       arith,
       c.len.ensures,
       ap (λ (actor : ActorPlan). length actor.steps) c.index-actors-number.is,
-      calls_at c.as_slice-actors.result.now c.loop-number.number c.index-actors-number.result c.loop-number-test.true c.index-actors-number.is
+      calls_at c.as_slice-actors.result.now c.loop-number.number c.index-actors-number.result c.loop-number-test.true
           (subst (λ (l : List ActorPlan). All (λ (actor : PlainActor). length actor.steps < 2 ^ 31) (map plain_actor l)) (sym c.as_slice-actors.ensures) c.requires.numbers.steps),
     )
 

@@ -1,0 +1,44 @@
+//! An actor in a run by turns, with what it has seen of each surface.
+
+ghost use Rattle.std.specs.Prelude.{◌≡◌, OnOk};
+ghost use Rattle.run_engine.specs.Turns.{MayTurn, IsTurn};
+
+use crate::desks::Desk;
+use commit_core::{PlainPass, PlainPort};
+use run_actor::{Actor, Event};
+use shadow_node::Made;
+use std::alloc::{AllocError, Global};
+
+/// An actor, and what it has seen of each surface, in their order.
+#[derive(Drop)]
+pub(crate) struct Worker<'a> {
+    pub(crate) actor: Actor<'a>,
+    pub(crate) passes: Vec<PlainPass>,
+}
+
+impl<'a> Worker<'a> {
+    /// One event of the actor, on the surface of that place.
+    pub(crate) fn turn(
+        &mut self,
+        alloc: Global,
+        made: &mut Made,
+        place: usize,
+        desk: &mut Desk<PlainPort>,
+    ) -> Result<(), AllocError>
+        requires { MayTurn place desk.old self.old }
+        ensures { OnOk result (IsTurn place desk.old desk.new self.old self.new) }
+    {
+        desk.port.exchange(&mut self.passes[place]);
+        match self
+            .actor
+            .event(alloc, made, &mut desk.port, &mut desk.mount)
+        {
+            Event::Did => {
+                desk.port.exchange(&mut self.passes[place]);
+                Ok(())
+            }
+            Event::Busy => unreachable!(),
+            Event::Memory => Err(AllocError),
+        }
+    }
+}
