@@ -151,8 +151,8 @@ impl<'a> Actor<'a> {
     /// One event of the step that it is at, at the port of the step's surface. On a step that is no
     /// mount `mount` stays.
     ///
-    /// After `Busy` and `Memory` the actor and `mount` are as before. An offer never answers
-    /// `Memory`.
+    /// After `Busy` and `Memory` its answers, its tries, what it holds and `mount` are as before; a
+    /// commit may have begun, with no look so far. An offer never answers `Memory`.
     pub fn event<P: Port>(
         &mut self,
         alloc: Global,
