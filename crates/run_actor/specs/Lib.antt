@@ -2,3 +2,4 @@ pub mod Actors
 pub mod Actions
 pub mod Event
 pub mod Steps
+pub mod Runs

@@ -2,5 +2,11 @@
 #![tactic(auto)]
 
 mod actors;
+mod desks;
+mod gate;
+mod run;
 
 pub use actors::{Actor, Event};
+pub use desks::Desk;
+pub use gate::{FreeGate, Gate};
+pub use run::run_actor;

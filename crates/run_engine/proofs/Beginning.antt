@@ -18,7 +18,8 @@ use Rattle.run_engine.specs.declared.workers.Worker.{Worker}
 use Rattle.run_actor.specs.Actors.{RunningActor}
 use Rattle.run_actor.specs.Event.{IsHolding, base_of}
 use Rattle.run_engine.specs.Now.{PlainDesk, desk_records, told_with, surface_now}
-use Rattle.run_engine.specs.Run.{commits_left, mounts_on, AreWithin, IsOpen, HasRoom, IsSeated, AreInOrder}
+use Rattle.run_engine.specs.Run.{commits_left, AreWithin, IsOpen, HasRoom, IsSeated, AreInOrder}
+use Rattle.run_actor.specs.Runs.{mounts_made_on}
 use Rattle.run_engine.specs.Opening.{IsOpening, AreOpenings, IsDeskAtStart, AreDesksAtStart, HasSeenNothing, IsWorkerAtStart, AreWorkersAtStart}
 use Rattle.run_engine.proofs.Openings.{zip_from, all_at_place}
 
@@ -104,7 +105,7 @@ module _ (surfaces : List PlainSurface) (plans : List PlainActor) (first : List 
           commit = λ op left commit under. absurd (none-some commit (sym (ap (λ (actor : RunningActor). actor.commit) begin.actor) ∙ under));
         };
         mounted = omega (arith, ap (number_mounted entry.0) unanswered, pass.2.seen);
-        mounts = ap (mounts_on entry.0) unmounted
+        mounts = ap (mounts_made_on entry.0) unmounted
             ∙ sym (ap (λ answers. map (mount_along entry.1.port.spine.first (desk_records entry.1)) (passages_by entry.0 number answers)) unanswered);
         within = subst (λ answers. AreWithin (length (desk_records entry.1)) (passages_by entry.0 number answers)) (sym unanswered) tt;
       }

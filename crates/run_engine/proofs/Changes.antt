@@ -33,7 +33,8 @@ use Rattle.run_report.proofs.Passages.{passages_by-push}
 use Rattle.run_actor.specs.Actors.{RunningActor, actor_now, commit_record}
 use Rattle.run_actor.specs.Event.{surface_told, base_of, MountsNothing, HasDone, IsHoldEvent, IsLookEvent, IsAdmittedEvent, IsLateEvent, IsMountEvent, AddsMount, mount_by, step_name}
 use Rattle.run_engine.specs.Now.{PlainDesk, desk_records, told_with, surface_now}
-use Rattle.run_engine.specs.Run.{commits_on, mounts_on, AreWithin, IsOpen, IsSeated}
+use Rattle.run_engine.specs.Run.{AreWithin, IsOpen, IsSeated}
+use Rattle.run_actor.specs.Runs.{commits_on, mounts_made_on}
 use Rattle.run_engine.specs.declared.workers.Worker.{Worker}
 use Rattle.run_engine.proofs.Quiet.{MountsNone, one_fewer, event_elsewhere, commit_quiet, hold_quiet, trying_quiet, answered_quiet}
 
@@ -69,25 +70,25 @@ within-push count (s ∷ passages) step all base to = (all.0, within-push count 
 
 -- one mount behind others, where a test answers for the first
 module _ (id : ℕ) (m : ℕ × MountPart) (more less : List (ℕ × MountPart)) where
-  one_head : (b : Bool) (part : MountPart) → mounts_on id more ≡ mounts_on id less ++ plain_mount part ∷ []
+  one_head : (b : Bool) (part : MountPart) → mounts_made_on id more ≡ mounts_made_on id less ++ plain_mount part ∷ []
       → map (λ (entry : ℕ × MountPart). plain_mount entry.1) (cond b (m ∷ filter (λ entry. nat_eq entry.0 id) more) (filter (λ entry. nat_eq entry.0 id) more))
       ≡ map (λ (entry : ℕ × MountPart). plain_mount entry.1) (cond b (m ∷ filter (λ entry. nat_eq entry.0 id) less) (filter (λ entry. nat_eq entry.0 id) less)) ++ plain_mount part ∷ []
   one_head true part e = ap (λ l. plain_mount m.1 ∷ l) e
   one_head false part e = e
 
-  same_head : (b : Bool) → mounts_on id more ≡ mounts_on id less
+  same_head : (b : Bool) → mounts_made_on id more ≡ mounts_made_on id less
       → map (λ (entry : ℕ × MountPart). plain_mount entry.1) (cond b (m ∷ filter (λ entry. nat_eq entry.0 id) more) (filter (λ entry. nat_eq entry.0 id) more))
       ≡ map (λ (entry : ℕ × MountPart). plain_mount entry.1) (cond b (m ∷ filter (λ entry. nat_eq entry.0 id) less) (filter (λ entry. nat_eq entry.0 id) less))
   same_head true e = ap (λ l. plain_mount m.1 ∷ l) e
   same_head false e = e
 
-mounts_on-push : (id : ℕ) (mounts : List (ℕ × MountPart)) (part : MountPart) → mounts_on id (mounts ++ (id, part) ∷ []) ≡ mounts_on id mounts ++ plain_mount part ∷ []
-mounts_on-push id [] part = ap (λ b. map (λ (entry : ℕ × MountPart). plain_mount entry.1) (cond b ((id, part) ∷ []) [])) (eq-eqb id id refl)
-mounts_on-push id (m ∷ mounts) part = one_head id m (mounts ++ (id, part) ∷ []) mounts (nat_eq m.0 id) part (mounts_on-push id mounts part)
+mounts_made_on-push : (id : ℕ) (mounts : List (ℕ × MountPart)) (part : MountPart) → mounts_made_on id (mounts ++ (id, part) ∷ []) ≡ mounts_made_on id mounts ++ plain_mount part ∷ []
+mounts_made_on-push id [] part = ap (λ b. map (λ (entry : ℕ × MountPart). plain_mount entry.1) (cond b ((id, part) ∷ []) [])) (eq-eqb id id refl)
+mounts_made_on-push id (m ∷ mounts) part = one_head id m (mounts ++ (id, part) ∷ []) mounts (nat_eq m.0 id) part (mounts_made_on-push id mounts part)
 
-mounts_on-other : (id other : ℕ) (mounts : List (ℕ × MountPart)) (part : MountPart) → nat_eq id other ≡ false → mounts_on other (mounts ++ (id, part) ∷ []) ≡ mounts_on other mounts
-mounts_on-other id other [] part off = ap (λ b. map (λ (entry : ℕ × MountPart). plain_mount entry.1) (cond b ((id, part) ∷ []) [])) off
-mounts_on-other id other (m ∷ mounts) part off = same_head other m (mounts ++ (id, part) ∷ []) mounts (nat_eq m.0 other) (mounts_on-other id other mounts part off)
+mounts_made_on-other : (id other : ℕ) (mounts : List (ℕ × MountPart)) (part : MountPart) → nat_eq id other ≡ false → mounts_made_on other (mounts ++ (id, part) ∷ []) ≡ mounts_made_on other mounts
+mounts_made_on-other id other [] part off = ap (λ b. map (λ (entry : ℕ × MountPart). plain_mount entry.1) (cond b ((id, part) ∷ []) [])) off
+mounts_made_on-other id other (m ∷ mounts) part off = same_head other m (mounts ++ (id, part) ∷ []) mounts (nat_eq m.0 other) (mounts_made_on-other id other mounts part off)
 
 -- all that is as long as the whole is the whole
 take_whole : {A : Type 0} (n : ℕ) (xs : List A) → length (take n xs) ≡ length xs → take n xs ≡ xs
@@ -104,9 +105,9 @@ pub record IsChange (id number : ℕ) (act : PlainAct) (old new : PlainDesk) (is
   pub room : length more + count_by (commits_on id) after.left ≤ count_by (commits_on id) before.left
   pub opened : IsOpen new
   pub mounted : number_mounted id after.answers ≤ is.seen
-  pub mounts : mounts_on id after.mounts ≡ map (mount_along new.port.spine.first (desk_records new)) (passages_by id number after.answers)
+  pub mounts : mounts_made_on id after.mounts ≡ map (mount_along new.port.spine.first (desk_records new)) (passages_by id number after.answers)
   pub within : AreWithin (length (desk_records new)) (passages_by id number after.answers)
-  pub others : (other : ℕ) → nat_eq id other ≡ false → mounts_on other after.mounts ≡ mounts_on other before.mounts
+  pub others : (other : ℕ) → nat_eq id other ≡ false → mounts_made_on other after.mounts ≡ mounts_made_on other before.mounts
 
 module _ (place id number : ℕ) (old new : PlainDesk) (was is : PlainPass) (worker : Worker) (after : RunningActor) (opened : IsOpen old)
     (number_is : worker.actor.number ≡ number) (seat : IsSeated place (id, old) number worker) (was_is : seat.pass ≡ was) (reached : is.floor ≤ length (desk_records new))
@@ -140,12 +141,12 @@ module _ (place id number : ℕ) (old new : PlainDesk) (was is : PlainPass) (wor
               (subst (λ l. IsBaseIn old.port.spine.first l opened.coordinator.base) (sym grown) (mounted_more old.port.spine.first (desk_records old) more opened.coordinator.base opened.base));
         };
         mounted = omega (arith, none.mounted, was_mounted, seen_grows);
-        mounts = ap (mounts_on id) nothing.mounts ∙ seat.mounts
+        mounts = ap (mounts_made_on id) nothing.mounts ∙ seat.mounts
             ∙ sym (mounts-more old.port.spine.first (desk_records old) more (passages_by id number worker.actor.answers) seat.within)
             ∙ (λ i. map (mount_along (sym lasts.first i) (sym grown i)) (sym same i));
         within = subst (AreWithin (length (desk_records new))) (sym same)
             (within-more (length (desk_records old)) (length (desk_records new)) (passages_by id number worker.actor.answers) (omega (arith, ap length grown, length-append (desk_records old) more)) seat.within);
-        others = λ other off. ap (mounts_on other) nothing.mounts;
+        others = λ other off. ap (mounts_made_on other) nothing.mounts;
       }
 
   same_records : HasLooked (told_with was old) (told_with is new) → desk_records new ≡ desk_records old
@@ -283,14 +284,14 @@ module _ (place id number : ℕ) (old new : PlainDesk) (was is : PlainPass) (wor
               length-take is.seen (desk_records new),
               ap length records,
             );
-        mounts = ap (mounts_on id) mounts ∙ mounts_on-push id worker.actor.mounts (mount_by (Some (step_name worker.actor)) transaction)
+        mounts = ap (mounts_made_on id) mounts ∙ mounts_made_on-push id worker.actor.mounts (mount_by (Some (step_name worker.actor)) transaction)
             ∙ (λ i. seat.mounts i ++ own i ∷ [])
             ∙ sym (map-append (mount_along first (desk_records old)) (passages_by id number worker.actor.answers) (step ∷ []))
             ∙ (λ i. map (mount_along (sym lasts.first i) (sym records i)) (sym passages i));
         within = subst (λ n. AreWithin n (passages_by id number after.answers)) (sym (ap length records))
             (subst (AreWithin (length (desk_records old))) (sym passages)
             (within-push (length (desk_records old)) (passages_by id number worker.actor.answers) step seat.within (omega (arith, target_low, done.newer, done.base, to_is)) target_low));
-        others = λ other off. ap (mounts_on other) mounts ∙ mounts_on-other id other worker.actor.mounts (mount_by (Some (step_name worker.actor)) transaction) off;
+        others = λ other off. ap (mounts_made_on other) mounts ∙ mounts_made_on-other id other worker.actor.mounts (mount_by (Some (step_name worker.actor)) transaction) off;
       }
 
   -- a mount of nothing newer

@@ -24,7 +24,8 @@ use Rattle.run_report.proofs.Pairs.{all_zip_length}
 use Rattle.run_engine.specs.declared.workers.Worker.{Worker}
 use Rattle.run_engine.specs.declared.runs.Run.{Run}
 use Rattle.run_engine.specs.Now.{PlainDesk, desk_records, surface_now, worker_now, run_now}
-use Rattle.run_engine.specs.Run.{mounts_on, HasCome, IsOpen}
+use Rattle.run_engine.specs.Run.{HasCome, IsOpen}
+use Rattle.run_actor.specs.Runs.{mounts_made_on}
 use Rattle.run_engine.specs.Ends.{AreListed, IsAlong, all_mounts_on, part_along}
 use Rattle.run_engine.proofs.Turn.{kept_of}
 use Rattle.run_engine.proofs.Loops.{there_at}
@@ -44,8 +45,8 @@ listed_empty (x ∷ ids) zero e = absurd (omega (arith, e))
 listed_empty (x ∷ ids) (suc count) e = (refl, listed_empty ids count (omega (arith, e)))
 
 -- the mounts on a surface, and more
-mounts_on-append : (id : ℕ) (before more : List (ℕ × MountPart)) → mounts_on id (before ++ more) ≡ mounts_on id before ++ mounts_on id more
-mounts_on-append id before more =
+mounts_made_on-append : (id : ℕ) (before more : List (ℕ × MountPart)) → mounts_made_on id (before ++ more) ≡ mounts_made_on id before ++ mounts_made_on id more
+mounts_made_on-append id before more =
     let on = λ (entry : ℕ × MountPart). nat_eq entry.0 id in
     ap (map (λ (entry : ℕ × MountPart). plain_mount entry.1)) (filter-append on before more) ∙ map-append (λ (entry : ℕ × MountPart). plain_mount entry.1) (filter on before) (filter on more)
 
@@ -58,9 +59,9 @@ item_holds_at P (y ∷ xs) (suc i) x all at = item_holds_at P xs i x all.1 at
 module _ (told : ℕ → List PlainMount) (id : ℕ) (part : MountPart) where
   -- what is told with it
   abbrev pub with_one : ℕ → List PlainMount
-  with_one other = told other ++ mounts_on other ((id, part) ∷ [])
+  with_one other = told other ++ mounts_made_on other ((id, part) ∷ [])
 
-  one_is : (other : ℕ) (same : Bool) → nat_eq id other ≡ same → mounts_on other ((id, part) ∷ []) ≡ cond same (plain_mount part ∷ []) []
+  one_is : (other : ℕ) (same : Bool) → nat_eq id other ≡ same → mounts_made_on other ((id, part) ∷ []) ≡ cond same (plain_mount part ∷ []) []
   one_is other true e = ap (λ b. map (λ (entry : ℕ × MountPart). plain_mount entry.1) (cond b ((id, part) ∷ []) [])) e
   one_is other false e = ap (λ b. map (λ (entry : ℕ × MountPart). plain_mount entry.1) (cond b ((id, part) ∷ []) [])) e
 
@@ -113,37 +114,37 @@ none_is id ids none =
 
 -- a mount more of an actor, where no surface has its id
 pub sorted_none : (told : ℕ → List PlainMount) (before : List (ℕ × MountPart)) (id : ℕ) (part : MountPart) (ids : List ℕ) (lists : List (List MountPart)) → position (nat_eq id) ids ≡ None
-    → AreListed (λ x. told x ++ mounts_on x before) ids lists → AreListed (λ x. told x ++ mounts_on x (before ++ (id, part) ∷ [])) ids lists
+    → AreListed (λ x. told x ++ mounts_made_on x before) ids lists → AreListed (λ x. told x ++ mounts_made_on x (before ++ (id, part) ∷ [])) ids lists
 sorted_none told before id part ids lists none all =
     let one : List (ℕ × MountPart) = (id, part) ∷ [] in
-    listed_same (with_one (λ x. told x ++ mounts_on x before) id part) (λ x. told x ++ mounts_on x (before ++ one))
-    (λ x. append_assoc (told x) (mounts_on x before) (mounts_on x one) ∙ ap (λ l. told x ++ l) (sym (mounts_on-append x before one)))
-    ids lists (listed_without (λ x. told x ++ mounts_on x before) id part ids lists (none_is id ids none) all)
+    listed_same (with_one (λ x. told x ++ mounts_made_on x before) id part) (λ x. told x ++ mounts_made_on x (before ++ one))
+    (λ x. append_assoc (told x) (mounts_made_on x before) (mounts_made_on x one) ∙ ap (λ l. told x ++ l) (sym (mounts_made_on-append x before one)))
+    ids lists (listed_without (λ x. told x ++ mounts_made_on x before) id part ids lists (none_is id ids none) all)
 
 -- and where one has it
 pub sorted_at : (told : ℕ → List PlainMount) (before : List (ℕ × MountPart)) (id : ℕ) (part : MountPart) (ids : List ℕ) (lists : List (List MountPart)) (place : ℕ) (mounts more : List MountPart)
     → IsDistinct nat_eq ids → position (nat_eq id) ids ≡ Some place → length lists ≡ length ids → mounts ≡ get_or lists place mounts → more ≡ mounts ++ part ∷ []
-    → AreListed (λ x. told x ++ mounts_on x before) ids lists → AreListed (λ x. told x ++ mounts_on x (before ++ (id, part) ∷ [])) ids (slice_set lists place more)
+    → AreListed (λ x. told x ++ mounts_made_on x before) ids lists → AreListed (λ x. told x ++ mounts_made_on x (before ++ (id, part) ∷ [])) ids (slice_set lists place more)
 sorted_at told before id part ids lists place mounts more distinct found count was more_is all =
     let one : List (ℕ × MountPart) = (id, part) ∷ [] in
     let is = position-Some (nat_eq id) ids place 0 found in
     let to : slice_get lists place ≡ Some mounts = there_at lists place mounts (omega (arith, is.0, count)) ∙ ap Some (sym was) in
-    subst (λ more. AreListed (λ x. told x ++ mounts_on x (before ++ one)) ids (slice_set lists place more)) (sym more_is)
-    (listed_same (with_one (λ x. told x ++ mounts_on x before) id part) (λ x. told x ++ mounts_on x (before ++ one))
-    (λ x. append_assoc (told x) (mounts_on x before) (mounts_on x one) ∙ ap (λ l. told x ++ l) (sym (mounts_on-append x before one)))
+    subst (λ more. AreListed (λ x. told x ++ mounts_made_on x (before ++ one)) ids (slice_set lists place more)) (sym more_is)
+    (listed_same (with_one (λ x. told x ++ mounts_made_on x before) id part) (λ x. told x ++ mounts_made_on x (before ++ one))
+    (λ x. append_assoc (told x) (mounts_made_on x before) (mounts_made_on x one) ∙ ap (λ l. told x ++ l) (sym (mounts_made_on-append x before one)))
     ids (slice_set lists place (mounts ++ part ∷ []))
-    (listed_with (λ x. told x ++ mounts_on x before) id part ids lists place (get_or ids place 0) mounts distinct (there_at ids place 0 is.0) is.1 to all))
+    (listed_with (λ x. told x ++ mounts_made_on x before) id part ids lists place (get_or ids place 0) mounts distinct (there_at ids place 0 is.0) is.1 to all))
 
 -- the mounts of an actor more
 pub gathered_next : (before : List Worker) (worker : Worker) (own : List (ℕ × MountPart)) (ids : List ℕ) (lists : List (List MountPart)) → own ≡ worker.actor.mounts
-    → AreListed (λ id. all_mounts_on id before ++ mounts_on id own) ids lists → AreListed (λ id. all_mounts_on id (before ++ worker ∷ [])) ids lists
+    → AreListed (λ id. all_mounts_on id before ++ mounts_made_on id own) ids lists → AreListed (λ id. all_mounts_on id (before ++ worker ∷ [])) ids lists
 gathered_next before worker own ids lists is all =
-    listed_same (λ id. all_mounts_on id before ++ mounts_on id own) (λ id. all_mounts_on id (before ++ worker ∷ []))
-    (λ id. ap (λ l. all_mounts_on id before ++ mounts_on id l) is ∙ sym (flat_map_push (λ (worker : Worker). mounts_on id worker.actor.mounts) before worker)) ids lists all
+    listed_same (λ id. all_mounts_on id before ++ mounts_made_on id own) (λ id. all_mounts_on id (before ++ worker ∷ []))
+    (λ id. ap (λ l. all_mounts_on id before ++ mounts_made_on id l) is ∙ sym (flat_map_push (λ (worker : Worker). mounts_made_on id worker.actor.mounts) before worker)) ids lists all
 
 -- what all actors mounted on a surface lies along the passages that their answers name
 pub gathered_along : (id : ℕ) (along : Passage → PlainMount) (n : ℕ) (workers : List Worker)
-    → ((j number : ℕ) (worker : Worker) → number ≡ n + j → slice_get workers j ≡ Some worker → mounts_on id worker.actor.mounts ≡ map along (passages_by id number worker.actor.answers))
+    → ((j number : ℕ) (worker : Worker) → number ≡ n + j → slice_get workers j ≡ Some worker → mounts_made_on id worker.actor.mounts ≡ map along (passages_by id number worker.actor.answers))
     → all_mounts_on id workers ≡ map along (flat_map (λ entry. passages_by id entry.0 entry.1.steps) (enumerate_from n (map actor_part_of (map worker_now workers))))
 gathered_along id along n [] each = refl
 gathered_along id along n (worker ∷ workers) each =

@@ -19,7 +19,8 @@ use Rattle.run_report.proofs.Pairs.{all_zip_push}
 use Rattle.commit_core.specs.declared.plain_parts.PlainSpine.{PlainSpine}
 use Rattle.run_engine.specs.declared.workers.Worker.{Worker}
 use Rattle.run_engine.specs.Now.{PlainDesk, worker_now}
-use Rattle.run_engine.specs.Run.{commits_on, commits_left}
+use Rattle.run_engine.specs.Run.{commits_left}
+use Rattle.run_actor.specs.Runs.{commits_on}
 use Rattle.run_engine.specs.Opening.{AreOpenings, IsHistory, AreHistories, IsMountedAtStart, IsDeskAtStart, AreDesksAtStart, IsWorkerAtStart, AreWorkersAtStart}
 use Rattle.run_engine.proofs.Loops.{there_at, map_next, push_cases}
 

@@ -19,7 +19,7 @@ use Rattle.run_report.specs.Shorthands.{trying, recorded, mounted_at, number_mou
 use Rattle.run_report.proofs.Looks.{number_held-other, number_mounted-push, number_mounted-other}
 use Rattle.script_read.proofs.PutRows.{count_by-first}
 use Rattle.run_report.proofs.Passages.{passages_by-push}
-use Rattle.run_engine.specs.Run.{commits_on}
+use Rattle.run_actor.specs.Runs.{commits_on}
 
 -- what an event on the surface of that id leaves on others, and how many commits are left
 pub record StaysElsewhere (id : ℕ) (before after : ActorNow) : Type 0 where

@@ -26,7 +26,8 @@ use Rattle.run_actor.specs.Actors.{actor_now, commit_record}
 use Rattle.run_actor.specs.Event.{IsUnderWay, MayMount, HasNeeds, KeepsElsewhere, base_of}
 use Rattle.run_engine.specs.Now.{PlainDesk, desk_records, told_with, surface_now, worker_now, now_of}
 use Rattle.run_engine.specs.Turns.{MayTurn, IsTurn}
-use Rattle.run_engine.specs.Run.{commits_on, commits_left, AreWithin, IsOpen, HasRoom, IsSeated, AreInOrder}
+use Rattle.run_engine.specs.Run.{commits_left, AreWithin, IsOpen, HasRoom, IsSeated, AreInOrder}
+use Rattle.run_actor.specs.Runs.{commits_on}
 use Rattle.run_actor.proofs.Acts.{holding_lasts}
 use Rattle.run_engine.proofs.Quiet.{StaysElsewhere, one_fewer, event_elsewhere}
 use Rattle.run_engine.proofs.Changes.{mounts-more, within-more, IsChange, change}

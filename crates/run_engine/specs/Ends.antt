@@ -15,7 +15,7 @@ use Rattle.run_report.specs.Machine.{SurfaceNow}
 use Rattle.run_actor.specs.Event.{base_of}
 use Rattle.run_engine.specs.declared.workers.Worker.{Worker}
 use Rattle.run_engine.specs.Now.{PlainDesk, desk_records, surface_now}
-use Rattle.run_engine.specs.Run.{mounts_on}
+use Rattle.run_actor.specs.Runs.{mounts_made_on}
 
 -- a surface's part of the journal, with mounts along these passages and the closing one
 abbrev pub part_along : List Passage → SurfaceNow → PlainSurfacePart
@@ -28,7 +28,7 @@ part_along passages surface = record {
 
 -- the mounts of some actors on the surface of that id
 abbrev pub all_mounts_on : (id : ℕ) → List Worker → List PlainMount
-all_mounts_on id workers = flat_map (λ worker. mounts_on id worker.actor.mounts) workers
+all_mounts_on id workers = flat_map (λ worker. mounts_made_on id worker.actor.mounts) workers
 
 -- lists of mounts, one for each surface of these ids in their order: each has the mounts that are told of its id
 abbrev pub AreListed : (told : ℕ → List PlainMount) → (ids : List ℕ) → (lists : List (List MountPart)) → Type 0
@@ -53,7 +53,7 @@ IsPartOf id desk mounts part =
 
 -- the mounts of one more actor joined the lists of their surfaces
 abbrev pub HaveJoined : (own : List (ℕ × MountPart)) → (ids : List ℕ) → (old new : List (List MountPart)) → Type 0
-HaveJoined own ids old new = (told : ℕ → List PlainMount) → AreListed told ids old → AreListed (λ id. told id ++ mounts_on id own) ids new
+HaveJoined own ids old new = (told : ℕ → List PlainMount) → AreListed told ids old → AreListed (λ id. told id ++ mounts_made_on id own) ids new
 
 -- parts of the journal are those of surfaces with these lists of mounts, in their order
 abbrev pub ArePartsOf : List (ℕ × PlainDesk) → List (List MountPart) → List SurfacePart → Type 0

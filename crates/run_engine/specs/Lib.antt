@@ -4,3 +4,4 @@ pub mod Turns
 pub mod Run
 pub mod Ends
 pub mod Opening
+pub mod Workers

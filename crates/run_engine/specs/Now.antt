@@ -7,7 +7,7 @@ use Rattle.commit_core.specs.PlainPorts.{records_of}
 use Rattle.commit_core.specs.declared.plain_parts.PlainPass.{PlainPass}
 use Rattle.commit_core.specs.declared.plain_parts.PlainPort.{PlainPort}
 use Rattle.run_report.specs.Machine.{SurfaceNow, ActorNow, RunNow}
-use Rattle.run_engine.specs.declared.desks.Desk.{Desk}
+use Rattle.run_actor.specs.declared.desks.Desk.{Desk}
 use Rattle.run_engine.specs.declared.workers.Worker.{Worker}
 use Rattle.run_engine.specs.declared.runs.Run.{Run}
 use Rattle.run_actor.specs.Actors.{actor_now}

@@ -13,25 +13,13 @@ use Rattle.run_report.specs.Machine.{ActorNow, after_turn, run_of}
 use Rattle.run_engine.specs.declared.workers.Worker.{Worker}
 use Rattle.run_engine.specs.declared.runs.Run.{Run}
 use Rattle.run_actor.specs.Event.{IsInOrder}
+use Rattle.run_actor.specs.Runs.{commits_on, mounts_made_on}
 use Rattle.run_engine.specs.Now.{PlainDesk, desk_records, told_with, worker_now, run_now}
-
--- a step commits
-abbrev pub is_commit : PlainAct → Bool
-is_commit (commit op) = true
-is_commit _ = false
-
--- a step commits on the surface of that id
-abbrev pub commits_on : (id : ℕ) → PlainStep → Bool
-commits_on id step = nat_eq step.surface id && is_commit step.act
 
 -- how many commits on the surface of that id some actors have left
 abbrev pub commits_left : (id : ℕ) → List ActorNow → ℕ
 commits_left id [] = 0
 commits_left id (actor ∷ actors) = count_by (commits_on id) actor.left + commits_left id actors
-
--- the mounts on the surface of that id, as the journal tells them
-abbrev pub mounts_on : (id : ℕ) → List (ℕ × MountPart) → List PlainMount
-mounts_on id mounts = map (λ entry. plain_mount entry.1) (filter (λ entry. nat_eq entry.0 id) mounts)
 
 -- passages between revisions of no more than so many records
 abbrev pub AreWithin : (count : ℕ) → List Passage → Type 0
@@ -54,7 +42,7 @@ pub record IsSeated (place : ℕ) (entry : ℕ × PlainDesk) (number : ℕ) (wor
   pub reached : pass.floor ≤ length (desk_records entry.1)
   pub order : IsInOrder (told_with pass entry.1) entry.0 worker.actor
   pub mounted : number_mounted entry.0 worker.actor.answers ≤ pass.seen
-  pub mounts : mounts_on entry.0 worker.actor.mounts
+  pub mounts : mounts_made_on entry.0 worker.actor.mounts
       ≡ map (mount_along entry.1.port.spine.first (desk_records entry.1)) (passages_by entry.0 number worker.actor.answers)
   pub within : AreWithin (length (desk_records entry.1)) (passages_by entry.0 number worker.actor.answers)
 

@@ -1,4 +1,4 @@
-//! A surface in a run.
+//! The end of a surface in a run.
 
 ghost use Rattle.std.specs.Prelude.{IfOk};
 ghost use Rattle.mount_coordinator.specs.Answers.{MayFinish};
@@ -9,47 +9,39 @@ use crate::parts::mount_part;
 use commit_core::PlainPort;
 use host_views::HostTree;
 use mount_coordinator::Coordinator;
+use run_actor::Desk;
 use run_report::{MountPart, SurfacePart};
 use sqlite_items::Items;
 use std::alloc::{AllocError, Global};
-use tree_revision::{Port, Revision};
+use tree_revision::Revision;
 use view_flatten::flatten;
 
-/// A surface in a run, as one holder has it: its history, and what stands mounted where it mounts.
-#[derive(Drop)]
-pub struct Desk<P: Port> {
-    pub port: P,
-    pub mount: Option<Coordinator>,
-}
-
-impl Desk<PlainPort> {
-    /// After the last event: the surface's part of the journal, with these mounts and the closing
-    /// one. Nothing is copied.
-    pub(crate) fn finish(
-        self,
-        alloc: Global,
-        id: u32,
-        mounts: Items<MountPart>,
-    ) -> Result<SurfacePart, AllocError>
-        requires { IsOpen self }
-        ensures { IfOk result (IsPartOf id self mounts) }
-    {
-        let Desk { port, mount } = self;
-        let Some(coordinator) = mount else {
-            unreachable!()
-        };
-        let (spine, _) = port.parts();
-        let (records, front) = spine.into_parts();
-        let mounts = with_closing(alloc, coordinator, front.share()?, mounts)?;
-        let next = front.mountable()?;
-        let HostTree { views: last } = flatten(alloc, next.forest())?;
-        Ok(SurfacePart {
-            id,
-            records,
-            mounts,
-            last,
-        })
-    }
+/// After the last event: the part of the journal of a surface of that id, with these mounts and the
+/// closing one. Nothing is copied.
+pub(crate) fn finish_desk(
+    alloc: Global,
+    id: u32,
+    desk: Desk<PlainPort>,
+    mounts: Items<MountPart>,
+) -> Result<SurfacePart, AllocError>
+    requires { IsOpen desk }
+    ensures { IfOk result (IsPartOf id desk mounts) }
+{
+    let Desk { port, mount } = desk;
+    let Some(coordinator) = mount else {
+        unreachable!()
+    };
+    let (spine, _) = port.parts();
+    let (records, front) = spine.into_parts();
+    let mounts = with_closing(alloc, coordinator, front.share()?, mounts)?;
+    let next = front.mountable()?;
+    let HostTree { views: last } = flatten(alloc, next.forest())?;
+    Ok(SurfacePart {
+        id,
+        records,
+        mounts,
+        last,
+    })
 }
 
 /// The mounts, and the closing one where the revision that may be mounted is newer than the base.

@@ -10,23 +10,22 @@ ghost use Rattle.run_report.specs.Named.{NamesItsActors};
 ghost use Rattle.run_engine.specs.Numbers.{IsWithinNumbers};
 
 mod desks;
-mod gate;
 mod opening;
 mod parts;
 mod runs;
 #[cfg(test)]
 mod tests;
+mod threads;
 mod workers;
 
-pub use desks::Desk;
-pub use gate::{FreeGate, Gate};
-pub use run_actor::{Actor, Event};
+pub use run_actor::{Actor, Desk, Event, FreeGate, Gate};
 use run_report::Journal;
 use run_report::laws::journals_of_turns_are_legal;
 use runs::Run;
 use script_read::Script;
 use shadow_node::Made;
 use std::alloc::{AllocError, Global};
+pub use threads::{Worked, run_threads, run_workers};
 
 /// Runs a script by its list of turns, and answers the journal of the run. It waits for nobody.
 ///

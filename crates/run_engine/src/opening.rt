@@ -10,14 +10,14 @@ ghost use Rattle.script_read.specs.Plain.{plain_actor, plain_step, plain_surface
 ghost use Rattle.run_report.specs.Machine.{ActorNow};
 ghost use Rattle.run_report.specs.Shorthands.{begun};
 ghost use Rattle.run_engine.specs.Opening.{AreDesksAtStart, AreHistories, AreOpenings, ArePassesAtStart, AreWorkersAtStart, IsHistory, IsMountedAtStart};
-ghost use Rattle.run_engine.specs.Run.{commits_left, commits_on};
+ghost use Rattle.run_engine.specs.Run.{commits_left};
+ghost use Rattle.run_actor.specs.Runs.{commits_on};
 
-use crate::desks::Desk;
 use crate::workers::Worker;
 use commit_core::{PlainPass, PlainPort, PlainSpine};
 use indexmap::IndexMap;
 use mount_coordinator::Coordinator;
-use run_actor::Actor;
+use run_actor::{Actor, Desk};
 use script_read::{Act, ActorPlan, Step, SurfacePlan};
 use std::alloc::{AllocError, Global};
 use tree_revision::Revision;

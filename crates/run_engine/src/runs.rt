@@ -12,11 +12,12 @@ ghost use Rattle.run_engine.specs.Now.{run_now};
 ghost use Rattle.run_engine.specs.Numbers.{IsWithinNumbers};
 ghost use Rattle.run_engine.specs.Run.{HasCome, HasTurned, IsOpen};
 
-use crate::desks::Desk;
+use crate::desks::finish_desk;
 use crate::opening::{desks_of, openings_of, spines_of, workers_of};
 use crate::workers::Worker;
 use commit_core::PlainPort;
 use indexmap::IndexMap;
+use run_actor::Desk;
 use run_report::{Journal, MountPart, SurfacePart};
 use script_read::Script;
 use shadow_node::Made;
@@ -176,7 +177,7 @@ fn surface_parts(
         let Some(mounts) = lists.next() else {
             unreachable!()
         };
-        parts.push(desk.finish(alloc, id, mounts)?)?;
+        parts.push(finish_desk(alloc, id, desk, mounts)?)?;
     }
     Ok(parts)
 }

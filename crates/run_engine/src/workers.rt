@@ -3,9 +3,8 @@
 ghost use Rattle.std.specs.Prelude.{◌≡◌, OnOk};
 ghost use Rattle.run_engine.specs.Turns.{MayTurn, IsTurn};
 
-use crate::desks::Desk;
 use commit_core::{PlainPass, PlainPort};
-use run_actor::{Actor, Event};
+use run_actor::{Actor, Desk, Event};
 use shadow_node::Made;
 use std::alloc::{AllocError, Global};
 

@@ -5,7 +5,7 @@ use Rattle.std.proofs.lemmas.List.Sums.{count_by-le-length}
 use Rattle.script_read.specs.Plain.{plain_step}
 use Rattle.script_read.specs.declared.script.ActorPlan.{ActorPlan}
 use Rattle.script_read.specs.declared.script.Step.{Step}
-use Rattle.run_engine.specs.Run.{commits_on}
+use Rattle.run_actor.specs.Runs.{commits_on}
 use Rattle.run_engine.proofs.Loops.{calls_at}
 use Rattle.run_engine.proofs.Openings.{commits_left-next}
 use Rattle.run_engine.proofs.opening.count_all_commits.Goals as goal

@@ -4,7 +4,7 @@ use Rattle.std.proofs.lemmas.List.{length-set}
 use Rattle.std.proofs.lemmas.List.Quantifiers.{position-Some}
 use Rattle.indexmap.specs.IndexMap.{keys}
 use Rattle.run_report.specs.declared.journal.MountPart.{MountPart}
-use Rattle.run_engine.specs.Run.{mounts_on}
+use Rattle.run_actor.specs.Runs.{mounts_made_on}
 use Rattle.run_engine.specs.Ends.{AreListed}
 use Rattle.run_engine.proofs.Finishing.{yielded_next}
 use Rattle.run_engine.proofs.Gathered.{sorted_none, sorted_at, all_came}
@@ -38,4 +38,4 @@ pub returns-clause-joined : goal.returns-clause-joined
 returns-clause-joined c told all =
     let whole : c.args.own.items ≡ c.loop-id.yielded =
     all_came c.args.own.items c.loop-id.yielded c.loop-id.id-iterator.rest.items c.loop-id.invariant.0 (omega (arith, c.loop-id.id-iterator.rest.ok.0, c.in-None.ensures.steps.0)) in
-    subst (λ (own : List (ℕ × MountPart)). AreListed (λ id. told id ++ mounts_on id own) (keys c.args.desks.now) c.loop-id.lists.items) (sym whole) (c.loop-id.invariant.2 told all)
+    subst (λ (own : List (ℕ × MountPart)). AreListed (λ id. told id ++ mounts_made_on id own) (keys c.args.desks.now) c.loop-id.lists.items) (sym whole) (c.loop-id.invariant.2 told all)

