@@ -35,6 +35,5 @@ pub fn run_actor<R: Wait, P: Port, G: Gate>(
     ensures surfaces { OnOk result ((id : ℕ) (was is : Desk P) → get nat_eq desks.old id ≡ Some was → get nat_eq desks.new id ≡ Some is
         → MayBegin id (P.told was.port) was.mount actor.old → HasRunOn id (P.told was.port) (P.told is.port) was.mount is.mount actor.old actor.new) }
 {
-    let _ = (rt, alloc, made, actor, desks, gate);
     Err(AllocError)
 }

@@ -46,7 +46,6 @@ pub fn run_workers<'a, R: Threads + Wait + Sync, G: Gate + Sync>(
     requires passes { MayWork (plain_script script.now) spines.now.entries passes.old.entries }
     ensures worked { IfOk result (λ worked. HaveWorked (plain_script script.now) passes.old.entries passes.new.entries worked.actors.items worked.mounts.items) }
 {
-    let _ = (rt, alloc, script, spines, passes, gate);
     Err(AllocError)
 }
 
@@ -65,6 +64,5 @@ pub fn run_threads<R: Threads + Wait + Sync, G: Gate + Sync>(
     ensures legal { IfOk result (λ journal. IsLegal (plain_script script.now) (plain_journal journal)) }
     ensures names { IfOk result (λ journal. NamesItsActors (plain_journal journal)) }
 {
-    let _ = (rt, alloc, script, gate);
     Err(AllocError)
 }
