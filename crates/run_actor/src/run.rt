@@ -1,7 +1,6 @@
 //! The run of one actor, from its first step to its end.
 
-ghost use Rattle.std.specs.Prelude.{◌≡◌, ℕ, OnOk, Some, nat_eq};
-ghost use Rattle.std.specs.List.{Contains};
+ghost use Rattle.std.specs.Prelude.{◌≡◌, ℕ, Contains, OnOk, Some, nat_eq};
 ghost use Rattle.indexmap.specs.IndexMap.{get, keys};
 ghost use Rattle.tree_revision.specs.Script.{PlainStep};
 ghost use Rattle.run_actor.specs.Runs.{HasRun, HasRunOn, IsBegun, MayBegin};
