@@ -12,17 +12,6 @@ use Rattle.indexmap.proofs.MapLemmas.{Missing-position}
 use Rattle.tree_revision.specs.Script.{PlainStep}
 use Rattle.run_engine.specs.Now.{PlainDesk, surface_now}
 
--- the step whose surface was asked for
-pub step_at : (left : List PlainStep) (id : ℕ) → option_map (λ step. step.surface) (slice_get left 0) ≡ Some id
-    → (step : PlainStep) × (slice_get left 0 ≡ Some step) × (step.surface ≡ id)
-step_at [] id e = absurd (none-some id e)
-step_at (step ∷ left) id e = (step, refl, same_Some step.surface id e)
-
--- where none is left
-pub none_at : (left : List PlainStep) → option_map (λ step. step.surface) (slice_get left 0) ≡ None → left ≡ []
-none_at [] e = refl
-none_at (step ∷ left) e = absurd (none-some step.surface (sym e))
-
 -- an entry of a map, by its key and its value
 entry_of : {A : Type 0} (es : List (ℕ × A)) (i k d : ℕ) (v : A) → i < length (keys_of es) → get_or (keys_of es) i d ≡ k → slice_get (values_of es) i ≡ Some v → slice_get es i ≡ Some (k, v)
 entry_of [] i k d v below key value = absurd (omega (arith, below))
