@@ -1,5 +1,5 @@
 -- What a turn changes of a surface and of its actor there.
-use Rattle.std.proofs.Common.{◌≡◌, ℕ, zero, suc, ◌+◌, ◌≤◌, Bool, List, [], ◌∷◌, ◌++◌, length, take, map, filter, arith, refl, ap, sym, ◌∙◌, subst, true, false, cond, length-append, append-nil, inl, inr}
+use Rattle.std.proofs.Common.{◌≡◌, ℕ, zero, suc, ◌+◌, ◌≤◌, List, [], ◌∷◌, ◌++◌, length, take, map, arith, refl, ap, sym, ◌∙◌, subst, true, false, cond, length-append, append-nil, inl, inr}
 use Rattle.std.specs.Prelude.{nat_eq, Some, None, Ok, count_by, slice_get}
 use Rattle.std.proofs.lemmas.Bool.{eq-eqb, ne_eqb}
 use Rattle.std.proofs.lemmas.Option.{same_Some}
@@ -23,7 +23,6 @@ use Rattle.mount_coordinator.specs.declared.coordinator.Transaction.{Transaction
 use Rattle.tree_revision.specs.declared.record.Answer.TheVariants.{Admitted, Mounted, Empty}
 use Rattle.run_report.specs.declared.journal.StepName.{StepName}
 use Rattle.run_report.specs.declared.journal.StepPart.{StepPart}
-use Rattle.run_report.specs.declared.journal.MountPart.{MountPart}
 use Rattle.run_report.specs.Journal.{plain_mount}
 use Rattle.run_report.specs.Mounts.{Passage, passage_of, passages_by, mount_along}
 use Rattle.run_report.specs.Machine.{SurfaceNow, ActorNow, Moment, moment, answered, after_commit, after_event}

@@ -1,6 +1,6 @@
 -- The surface of a step, as a map finds it.
 use Rattle.std.proofs.Common.{◌≡◌, ◌<◌, ℕ, zero, suc, false, List, [], ◌∷◌, length, find, get_or, map, slice_get, slice_set, arith, refl, ap, sym, ◌∙◌, cond}
-use Rattle.std.specs.Prelude.{Some, None, nat_eq, option_map, position, OnOk, Result, Ok, Err}
+use Rattle.std.specs.Prelude.{Some, None, nat_eq, position, OnOk, Result, Ok, Err}
 use Rattle.std.specs.List.{AllByRecursion}
 use Rattle.std.specs.Map.{keys_of, values_of}
 use Rattle.std.proofs.lemmas.Bool.{eqb-true, ne_eqb, eqb-false}
@@ -9,7 +9,6 @@ use Rattle.std.proofs.lemmas.Map.{none_passes_from_lookup}
 use Rattle.std.proofs.lemmas.Option.{none-some, same_Some}
 use Rattle.indexmap.specs.IndexMap.{set_value_at}
 use Rattle.indexmap.proofs.MapLemmas.{Missing-position}
-use Rattle.tree_revision.specs.Script.{PlainStep}
 use Rattle.run_engine.specs.Now.{PlainDesk, surface_now}
 
 -- an entry of a map, by its key and its value
