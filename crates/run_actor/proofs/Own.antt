@@ -1,16 +1,17 @@
 -- An event on a surface keeps how far its actor has run there.
-use Rattle.std.proofs.Common.{◌≡◌, ℕ, ◌+◌, ◌≤◌, Bool, true, false, cond, List, [], ◌∷◌, ◌++◌, length, take, drop, map, nat_eq, slice_get, arith, refl, ap, sym, ◌∙◌, subst, inl, inr, append_assoc, append-nil, length-append, eq-eqb}
+use Rattle.std.proofs.Common.{◌≡◌, ℕ, ◌+◌, ◌≤◌, Bool, true, false, cond, List, [], ◌∷◌, ◌++◌, length, take, drop, map, nat_eq, slice_get, arith, refl, ap, sym, ◌∙◌, subst, inl, inr, append_assoc, append-nil, length-append, eq-eqb, true≢false}
 use Rattle.std.specs.Prelude.{Option, Some, None, Ok, count_by}
 use Rattle.std.specs.List.{enumerate_from}
 use Rattle.std.proofs.lemmas.Bool.{ne_eqb}
 use Rattle.std.proofs.lemmas.Option.{none-some, same_Some}
 use Rattle.std.proofs.lemmas.List.{map-append}
 use Rattle.std.proofs.lemmas.List.FromFn.{length-enumerate_from}
-use Rattle.std.proofs.Math.Seq.{take-length}
+use Rattle.std.proofs.Math.Seq.{take-length, drop-length, drop-append_seam}
 use Rattle.counts.specs.Raised.{raised}
 use Rattle.tree_revision.specs.Records.{PlainOp, PlainRecord}
 use Rattle.tree_revision.specs.Script.{PlainAct, commit, hold, mount, PlainStep}
 use Rattle.tree_revision.specs.Cancels.{cancel_of}
+use Rattle.tree_revision.specs.Sound.{is_mount}
 use Rattle.tree_revision.specs.Lawful.{IsLawful}
 use Rattle.tree_revision.specs.Mountable.{mountable_of}
 use Rattle.tree_revision.specs.Ports.{Told, Lasts, HasLooked, Stays, BeginsWith}
@@ -57,29 +58,6 @@ hold_looks (Some at) = refl
 mount_looks : (looked : Option ℕ) → looks_at mount looked ≡ 1
 mount_looks None = refl
 mount_looks (Some at) = refl
-
--- an act that mounts
-mounts_now : PlainAct → Type 0
-mounts_now mount = Unit {0}
-mounts_now act = ⊥
-
-no_hold : hold ≡ mount → ⊥
-unfolding mounts_now
-no_hold e = subst mounts_now (sym e) tt
-
-no_commit : (op : PlainOp) → commit op ≡ mount → ⊥
-unfolding mounts_now
-no_commit op e = subst mounts_now (sym e) tt
-
--- nothing comes after the whole
-none_after : (entries : List PlainRecord) → drop (length entries) entries ≡ []
-none_after [] = refl
-none_after (entry ∷ entries) = none_after entries
-
--- after some records comes the last
-one_after : (entries : List PlainRecord) (entry : PlainRecord) → drop (length entries) (entries ++ entry ∷ []) ≡ entry ∷ []
-one_after [] entry = refl
-one_after (first ∷ entries) entry = one_after entries entry
 
 -- some passages, and one more, are not none
 leaves_passage : (told : Told) (opened is : Option PlainCoordinator) (passages : List Passage) (step : Passage) (mounted : PlainCoordinator) → is ≡ Some mounted
@@ -227,7 +205,7 @@ module _ (id : ℕ) (start old new : Told) (opened was is : Option PlainCoordina
       → LeavesMounted new opened is (passages_by id begun.number after.answers) → RunsOn id start new opened is begun after
   looked act base next left look goes at_base surface_is once along mounted =
       let lawful : IsLawful new.first new.seen = subst (λ first. IsLawful first new.seen) (sym lasts.first) look.answered.stands.lawful in
-      let none : length (drop (length new.seen) new.seen) ≡ 0 = ap (λ (list : List PlainRecord). length list) (none_after new.seen) in
+      let none : length (drop (length new.seen) new.seen) ≡ 0 = ap (λ (list : List PlainRecord). length list) (drop-length new.seen) in
       taken act new base next (record {
         left = left;
         first_is = refl;
@@ -239,7 +217,7 @@ module _ (id : ℕ) (start old new : Told) (opened was is : Option PlainCoordina
         surface_is = surface_is;
         lawful = lawful;
         own = look.answered.own
-            ∙ sym (ap (λ (more : List PlainRecord). old.own ++ enumerate_from (length new.seen + 1) more) (none_after new.seen) ∙ append-nil old.own);
+            ∙ sym (ap (λ (more : List PlainRecord). old.own ++ enumerate_from (length new.seen + 1) more) (drop-length new.seen) ∙ append-nil old.own);
         permits = omega (arith, look.answered.permits, none);
         looks = look.answered.looks ∙ ap (raised old.looks) (sym once);
         room =
@@ -263,7 +241,7 @@ module _ (id : ℕ) (start old new : Told) (opened was is : Option PlainCoordina
       → RunsOn id start new opened is begun after
   held left event nothing =
       let now : ActorNow = actor_now before in
-      looked_quietly hold (base_of was) left event.look event.goes_on (λ e. absurd (no_hold e)) refl (hold_looks now.looked) nothing
+      looked_quietly hold (base_of was) left event.look event.goes_on (λ e. absurd (true≢false (sym (ap is_mount e)))) refl (hold_looks now.looked) nothing
       (subst (MountsNone id now) (sym event.goes_on) (hold_quiet before.number (surface_told id new (base_of was)) now))
 
   looked_at_it : (op : PlainOp) → slice_get before.left 0 ≡ Some (record { surface = id; act = commit op }) → IsLookEvent id op old new (base_of was) before after
@@ -271,7 +249,7 @@ module _ (id : ℕ) (start old new : Told) (opened was is : Option PlainCoordina
   looked_at_it op left event nothing =
       let now : ActorNow = actor_now before in
       let surface : SurfaceNow = surface_told id new (base_of was) in
-      looked_quietly (commit op) (base_of was) left event.look event.goes_on (λ e. absurd (no_commit op e))
+      looked_quietly (commit op) (base_of was) left event.look event.goes_on (λ e. absurd (true≢false (sym (ap is_mount e))))
       (ap (λ looked. (after_commit before.number op looked surface now).surface) event.fresh) (ap (looks_at (commit op)) event.fresh) nothing
       (subst (MountsNone id now) (sym event.goes_on) (commit_quiet before.number surface now op now.looked))
 
@@ -293,7 +271,7 @@ module _ (id : ℕ) (start old new : Told) (opened was is : Option PlainCoordina
       ap (λ (a : ActorNow). number_held id a.answers) went ∙ number_held-push id before.answers part refl ∙ sym long in
       let lawful : IsLawful new.first new.seen =
       subst (IsLawful new.first) (ap (λ n. take n new.seen) number ∙ take-length new.seen) order.holding.stands.lawful in
-      let more : drop (length old.seen) new.seen ≡ entry ∷ [] = ap (drop (length old.seen)) event.offer.seen ∙ one_after old.seen entry in
+      let more : drop (length old.seen) new.seen ≡ entry ∷ [] = ap (drop (length old.seen)) event.offer.seen ∙ drop-append_seam old.seen (entry ∷ []) in
       let one : length (drop (length old.seen) new.seen) ≡ 1 = ap (λ (list : List PlainRecord). length list) more in
       let quiet : MountsNone id now (actor_now after) = subst (MountsNone id now) (sym went) (answered_quiet id answer now (λ name. refl) (λ base. refl)) in
       let no_looks : looks_at (commit op) now.looked ≡ 0 = ap (looks_at (commit op)) event.looked in
@@ -303,7 +281,7 @@ module _ (id : ℕ) (start old new : Told) (opened was is : Option PlainCoordina
         grown = begins_self old.seen;
         reached = omega (arith, lasts.reached, lasts.seen.within);
         fresh = λ none. absurd (none-some (length old.seen) (sym none ∙ event.looked));
-        at_base = λ e. absurd (no_commit op e);
+        at_base = λ e. absurd (true≢false (sym (ap is_mount e)));
         goes = event.goes_on;
         surface_is = ap (λ (m : Moment). m.surface) offer
             ∙ (λ i. record { id = id; first = sym lasts.first i; records = sym event.offer.seen i; base = base_of was });
