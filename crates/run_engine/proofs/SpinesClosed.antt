@@ -1,27 +1,21 @@
 -- The ends of the surfaces of a run on threads, a surface further; and that they may be closed.
-use Rattle.std.proofs.Common.{◌≡◌, ℕ, zero, suc, ◌+◌, ◌<◌, ◌≤◌, List, [], ◌∷◌, ◌++◌, length, drop, map, slice_get, arith, refl, ap, sym, ◌∙◌, subst, length-append}
-use Rattle.std.specs.Prelude.{Some, Option, Result, Ok, Err, IfOk}
-use Rattle.std.specs.List.{AllZip}
-use Rattle.std.specs.Map.{keys_of}
-use Rattle.std.specs.declared.alloc.AllocError.{AllocError}
-use Rattle.std.proofs.lemmas.Option.{none-some, same_Some, slice_get_within}
-use Rattle.std.proofs.lemmas.List.{map-append, length-map}
+use Rattle.std.proofs.Common.{◌≡◌, ℕ, zero, suc, ◌+◌, ◌<◌, ◌≤◌, List, [], ◌∷◌, ◌++◌, length, drop, map, slice_get, arith, ap, sym, ◌∙◌, subst, length-append}
+use Rattle.std.specs.Prelude.{Some}
+use Rattle.std.proofs.lemmas.Option.{same_Some, slice_get_within}
+use Rattle.std.proofs.lemmas.List.{length-map}
 use Rattle.shadow_frame.specs.declared.Size.{Size}
 use Rattle.tree_revision.specs.Lawful.{IsLawful}
 use Rattle.tree_revision.specs.Records.{PlainRecord}
 use Rattle.tree_revision.specs.Script.{PlainSurface, PlainScript}
-use Rattle.tree_revision.specs.Settled.{KeptRevision}
 use Rattle.tree_revision.specs.Ports.{BeginsWith}
 use Rattle.mount_coordinator.specs.Mounted.{PlainCoordinator, IsBaseIn}
 use Rattle.mount_coordinator.specs.Answers.{MayFinish}
-use Rattle.run_report.specs.declared.journal.ActorPart.{ActorPart}
 use Rattle.run_report.specs.declared.journal.MountPart.{MountPart}
 use Rattle.run_report.specs.declared.journal.SurfacePart.{SurfacePart}
-use Rattle.run_report.specs.Journal.{plain_mount, plain_actor_part, plain_surface_part}
-use Rattle.run_report.specs.Machine.{actor_part_of}
+use Rattle.run_report.specs.Journal.{plain_mount, plain_surface_part}
 use Rattle.run_report.specs.Mounts.{Passage, last_to, mount_along}
 use Rattle.run_report.proofs.Begins.{begins_more}
-use Rattle.run_report.proofs.Lists.{flat_map_push, item_within}
+use Rattle.run_report.proofs.Lists.{item_within}
 use Rattle.run_report.proofs.Pairs.{all_zip_at, all_zip_length}
 use Rattle.commit_spine.specs.declared.spine_parts.Spine.{Spine}
 use Rattle.commit_spine.specs.declared.store.Store.{Store}
@@ -32,14 +26,13 @@ use Rattle.commit_spine.specs.SpinePasses.{PassValue}
 use Rattle.commit_spine.specs.StepTells.{IsEndOf}
 use Rattle.commit_spine.specs.Calls.{IsPassOf}
 use Rattle.commit_core.specs.Plain.{plain_records}
-use Rattle.run_actor.specs.Actors.{RunningActor, actor_now}
-use Rattle.run_actor.specs.Runs.{mounts_made_on}
-use Rattle.run_engine.specs.Ends.{AreListed, IsClosedPart, part_over}
+use Rattle.run_actor.specs.Actors.{RunningActor}
+use Rattle.run_engine.specs.Ends.{IsClosedPart, part_over}
 use Rattle.run_engine.specs.Workers.{HaveWorked}
-use Rattle.run_engine.specs.Spines.{AreSpinesAtStart, MayClose, MayCloseAll, IsPartAtEnd, ArePartsAtEnd, mounts_of, kept_at_start}
+use Rattle.run_engine.specs.Spines.{AreSpinesAtStart, MayClose, MayCloseAll, IsPartAtEnd, kept_at_start}
 use Rattle.run_engine.proofs.Changes.{mounted_more}
 use Rattle.run_engine.proofs.Finishing.{at_yielded}
-use Rattle.run_engine.proofs.Gathered.{keys_length, listed_same}
+use Rattle.run_engine.proofs.Gathered.{keys_length}
 use Rattle.run_engine.proofs.Loops.{push_cases}
 
 -- a part is that of the surface of that place at its end
@@ -154,18 +147,3 @@ may_close script spines was is actors mounted start worked =
             stands = subst (λ size. IsBaseIn size pass.1.kept.seen coordinator.base) (sym (ap (λ (m : SpineMark). m.first) own.mark ∙ ap (λ (k : KeptByPass). k.mark.first) kept)) own.stands;
           };
     }
-
--- the mounts of an actor more
-pub mounts_next : (before : List RunningActor) (actor : RunningActor) (own : List (ℕ × MountPart)) (ids : List ℕ) (lists : List (List MountPart)) → own ≡ actor.mounts
-    → AreListed (λ id. mounts_of id before ++ mounts_made_on id own) ids lists → AreListed (λ id. mounts_of id (before ++ actor ∷ [])) ids lists
-mounts_next before actor own ids lists is all =
-    listed_same (λ id. mounts_of id before ++ mounts_made_on id own) (λ id. mounts_of id (before ++ actor ∷ []))
-    (λ id. ap (λ l. mounts_of id before ++ mounts_made_on id l) is ∙ sym (flat_map_push (λ (actor : RunningActor). mounts_made_on id actor.mounts) before actor)) ids lists all
-
--- the actors' parts so far, and one more
-pub parts_push : (before : List RunningActor) (actor : RunningActor) (sofar all : List ActorPart) (part : ActorPart)
-    → map plain_actor_part sofar ≡ map (λ actor. actor_part_of (actor_now actor)) before → all ≡ sofar ++ part ∷ [] → plain_actor_part part ≡ actor_part_of (actor_now actor)
-    → map plain_actor_part all ≡ map (λ actor. actor_part_of (actor_now actor)) (before ++ actor ∷ [])
-parts_push before actor sofar all part was all_are own =
-    ap (map plain_actor_part) all_are ∙ map-append plain_actor_part sofar (part ∷ []) ∙ (λ i. was i ++ own i ∷ [])
-    ∙ sym (map-append (λ (actor : RunningActor). actor_part_of (actor_now actor)) before (actor ∷ []))

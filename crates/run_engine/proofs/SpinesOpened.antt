@@ -1,6 +1,6 @@
 -- The spines of a run on threads and their passes, a surface further; and that the workers may work with them.
-use Rattle.std.proofs.Common.{◌≡◌, ℕ, List, [], ◌∷◌, ◌++◌, ◌+◌, length, map, slice_get, take, arith, refl, ap, sym, ◌∙◌, subst, append-nil, take_at}
-use Rattle.std.specs.Prelude.{None, Some, nat_eq}
+use Rattle.std.proofs.Common.{◌≡◌, ℕ, List, [], ◌∷◌, ◌++◌, ◌+◌, length, map, arith, refl, ap, sym, ◌∙◌, subst, append-nil, take_at}
+use Rattle.std.specs.Prelude.{None, nat_eq}
 use Rattle.std.specs.List.{AllZip, IsDistinct}
 use Rattle.std.specs.Map.{keys_of, lookup}
 use Rattle.std.proofs.lemmas.List.{map-append, nil_from_length}
@@ -15,7 +15,7 @@ use Rattle.run_report.proofs.Pairs.{all_zip_push, all_zip_at}
 use Rattle.run_report.specs.Shorthands.{begun}
 use Rattle.run_engine.specs.Run.{commits_left}
 use Rattle.run_engine.specs.Opening.{IsOpening, AreOpenings}
-use Rattle.run_engine.specs.Workers.{MayBeSplit, MayWork}
+use Rattle.run_engine.specs.Workers.{MayWork}
 use Rattle.run_engine.specs.Spines.{AreSpinesAtStart, kept_at_start}
 use Rattle.run_engine.proofs.Finishing.{at_yielded}
 use Rattle.run_engine.proofs.Openings.{zip_from, ids_are, is_new, keys_map}

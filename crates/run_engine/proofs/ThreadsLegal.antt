@@ -1,28 +1,24 @@
 -- The journal of a run on threads is legal: by what the workers leave, and by the ends of the surfaces.
-use Rattle.std.proofs.Common.{◌≡◌, ℕ, zero, suc, ◌+◌, ◌-◌, ◌<◌, ◌≤◌, Bool, true, false, cond, ◌==◌, List, [], ◌∷◌, ◌++◌, length, map, slice_get, arith, refl, ap, sym, ◌∙◌, subst, inl, inr}
-use Rattle.std.specs.Prelude.{Some, nat_eq, option_map, Result, Ok, Err, IfOk}
-use Rattle.std.specs.List.{AllByRecursion, AllZip, Contains, IsDistinct, enumerate_from, flat_map}
+use Rattle.std.proofs.Common.{◌≡◌, ℕ, suc, ◌+◌, ◌-◌, ◌<◌, ◌≤◌, cond, ◌==◌, List, [], ◌∷◌, length, map, slice_get, arith, refl, ap, sym, ◌∙◌, subst, inl, inr}
+use Rattle.std.specs.Prelude.{Some, option_map, Result, Ok, Err, IfOk}
+use Rattle.std.specs.List.{AllByRecursion, AllZip, Contains, enumerate_from}
 use Rattle.std.specs.Map.{keys_of}
 use Rattle.std.specs.declared.alloc.AllocError.{AllocError}
 use Rattle.std.proofs.lemmas.Bool.{cases_Bool, eqb-true}
-use Rattle.std.proofs.lemmas.Option.{none-some, same_Some, slice_get-map, slice_get_within}
-use Rattle.std.proofs.lemmas.List.{map-append, length-map}
-use Rattle.std.proofs.lemmas.List.Elements.{Contains-append_left, Contains-append_right, Contains-append_cases}
+use Rattle.std.proofs.lemmas.Option.{same_Some, slice_get-map, slice_get_within}
+use Rattle.std.proofs.lemmas.List.{length-map}
+use Rattle.std.proofs.lemmas.List.Elements.{Contains-append_right, Contains-append_cases}
 use Rattle.std.proofs.lemmas.List.Sums.{sum_by-cons}
-use Rattle.shadow_frame.specs.declared.Size.{Size}
 use Rattle.tree_revision.specs.Records.{PlainRecord}
 use Rattle.tree_revision.specs.Script.{PlainActor, PlainSurface, PlainScript}
-use Rattle.tree_revision.specs.Sound.{IsSoundScript, ids_of}
+use Rattle.tree_revision.specs.Sound.{IsSoundScript}
 use Rattle.tree_revision.specs.Lawful.{IsLawful}
-use Rattle.tree_revision.specs.Mountable.{mountable_of}
-use Rattle.tree_revision.specs.Ports.{BeginsWith}
 use Rattle.mount_coordinator.specs.Mounted.{PlainCoordinator}
 use Rattle.run_report.specs.declared.journal.MountPart.{MountPart}
-use Rattle.run_report.specs.declared.journal.SurfacePart.{SurfacePart}
 use Rattle.run_report.specs.declared.journal.Journal.{Journal}
-use Rattle.run_report.specs.Journal.{PlainMount, PlainActorPart, PlainSurfacePart, plain_mount, plain_actor_part, plain_surface_part, plain_journal}
+use Rattle.run_report.specs.Journal.{PlainActorPart, PlainSurfacePart, plain_mount, plain_surface_part, plain_journal}
 use Rattle.run_report.specs.Machine.{actor_part_of}
-use Rattle.run_report.specs.Mounts.{Passage, passages_by, mount_along, closed}
+use Rattle.run_report.specs.Mounts.{mount_along, closed}
 use Rattle.run_report.specs.Shorthands.{passages_named}
 use Rattle.run_report.specs.Wishes.{as_written}
 use Rattle.run_report.specs.Legal.{Answers, HasFormOf, IsLegal}
@@ -40,11 +36,11 @@ use Rattle.commit_spine.specs.SpineRule.{StandsAt, AllStandIn}
 use Rattle.commit_spine.specs.SpinePasses.{PassValue}
 use Rattle.run_actor.specs.Actors.{RunningActor, actor_now}
 use Rattle.run_actor.specs.Runs.{mounts_made_on}
-use Rattle.run_engine.specs.Ends.{AreListed, part_over}
-use Rattle.run_engine.specs.Workers.{records_by, records_from, passages_of, HasEnded, HasWorkedOn, HaveWorkedOn, HaveWorked}
-use Rattle.run_engine.specs.Spines.{AreSpinesAtStart, IsPartAtEnd, ArePartsAtEnd, IsJournalOf, mounts_of, kept_at_start}
+use Rattle.run_engine.specs.Ends.{mounts_of, part_over}
+use Rattle.run_engine.specs.Workers.{records_by, records_from, passages_of, HasEnded, HaveWorkedOn, HaveWorked}
+use Rattle.run_engine.specs.Spines.{AreSpinesAtStart, IsPartAtEnd, IsJournalOf, kept_at_start}
 use Rattle.run_engine.proofs.Openings.{keys_at}
-use Rattle.run_engine.proofs.Gathered.{keys_length}
+use Rattle.run_engine.proofs.Gathered.{keys_length, mounted_along, passages_same, mapped_at}
 
 -- what each two items give
 zip_weaker : {A B : Type 0} (R S : A → B → Type 0) → ((a : A) (b : B) → R a b → S a b) → (xs : List A) (ys : List B) → AllZip R xs ys → AllZip S xs ys
@@ -88,34 +84,9 @@ named_by_one id entries at n (plan ∷ plans) (actor ∷ actors) c =
           (suc rest.0, rest.1, rest.2, rest.3, omega (arith, rest.4), rest.5, rest.6, rest.7)
     ]
 
--- what all actors mounted on a surface lies along the passages that their answers name
-mounted_along : (id : ℕ) (along : Passage → PlainMount) (n : ℕ) (actors : List RunningActor)
-    → ((j number : ℕ) (actor : RunningActor) → number ≡ n + j → slice_get actors j ≡ Some actor → mounts_made_on id actor.mounts ≡ map along (passages_by id number actor.answers))
-    → mounts_of id actors ≡ map along (flat_map (λ entry. passages_by id entry.0 entry.1.answers) (enumerate_from n actors))
-mounted_along id along n [] each = refl
-mounted_along id along n (actor ∷ actors) each =
-    (λ i. each 0 n actor (omega arith) refl i
-    ++ mounted_along id along (n + 1) actors (λ j number a e at. each (suc j) number a (omega (arith, e)) at) i)
-    ∙ sym (map-append along (passages_by id n actor.answers)
-    (flat_map (λ (entry : ℕ × RunningActor). passages_by id entry.0 entry.1.answers) (enumerate_from (n + 1) actors)))
-
 -- an actor's part of the journal
 abbrev part_of : RunningActor → PlainActorPart
 part_of actor = actor_part_of (actor_now actor)
-
--- the passages that the actors' parts name
-passages_same : (id n : ℕ) (actors : List RunningActor)
-    → flat_map (λ (entry : ℕ × PlainActorPart). passages_by id entry.0 entry.1.steps) (enumerate_from n (map part_of actors))
-    ≡ flat_map (λ (entry : ℕ × RunningActor). passages_by id entry.0 entry.1.answers) (enumerate_from n actors)
-passages_same id n [] = refl
-passages_same id n (actor ∷ actors) = ap (λ l. passages_by id n actor.answers ++ l) (passages_same id (n + 1) actors)
-
--- the actor whose part that is
-actor_at : (actors : List RunningActor) (number : ℕ) (part : PlainActorPart) → slice_get (map part_of actors) number ≡ Some part
-    → (actor : RunningActor) × (slice_get actors number ≡ Some actor) × (part_of actor ≡ part)
-actor_at [] number part at = absurd (none-some part at)
-actor_at (actor ∷ actors) zero part at = (actor, refl, same_Some (part_of actor) part at)
-actor_at (actor ∷ actors) (suc number) part at = actor_at actors number part at
 
 -- one surface: what the workers leave of it, and its part at its end
 module _ (script : PlainScript) (surface : PlainSurface) (was is : PassValue) (mounted : PlainCoordinator) (actors : List RunningActor) (mounts : List MountPart) (part : PlainSurfacePart)
@@ -185,7 +156,7 @@ module _ (script : PlainScript) (surface : PlainSurface) (was is : PassValue) (m
   each_legal : (number : ℕ) (plan : PlainActor) (own : PlainActorPart) → slice_get script.actors number ≡ Some plan → slice_get (map part_of actors) number ≡ Some own
       → IsLegalActorOn as_written surface.size part number plan own
   each_legal number plan own planned at =
-      let actor = actor_at actors number own at in
+      let actor = mapped_at part_of actors number own at in
       subst (λ own. IsLegalActorOn as_written surface.size part number plan own) actor.2
       (record {
         answers = subst (λ id. AreLegalAnswers as_written surface.size id part.records number plan.steps actor.0.answers) (sym end.id_is) (answers_over number plan actor.0 planned actor.1);
@@ -255,7 +226,7 @@ module _ (script : PlainScript) (sound : IsSoundScript script) (spines : List (�
   actors_end = all_zip_each (λ (plan : PlainActor) (part : PlainActorPart). (part.name ≡ plan.name) × AllZip Answers plan.steps part.steps) script.actors (map part_of actors)
       (length-map actors part_of ∙ worked.actor_count)
       (λ number plan part at to.
-      let actor = actor_at actors number part to in
+      let actor = mapped_at part_of actors number part to in
       let ended : HasEnded number plan actor.0 = worked.ended number plan actor.0 at actor.1 in
       subst (λ (part : PlainActorPart). (part.name ≡ plan.name) × AllZip Answers plan.steps part.steps) actor.2 (ended.name, ended.answers))
 

@@ -12,6 +12,7 @@ use Rattle.run_report.specs.declared.journal.SurfacePart.{SurfacePart}
 use Rattle.run_report.specs.Journal.{PlainMount, PlainSurfacePart, plain_mount, plain_surface_part}
 use Rattle.run_report.specs.Mounts.{Passage, closed, last_to, mount_along}
 use Rattle.run_report.specs.Machine.{SurfaceNow}
+use Rattle.run_actor.specs.Actors.{RunningActor}
 use Rattle.run_actor.specs.Event.{base_of}
 use Rattle.run_engine.specs.declared.workers.Worker.{Worker}
 use Rattle.run_engine.specs.Now.{PlainDesk, desk_records, surface_now}
@@ -31,8 +32,12 @@ abbrev pub part_along : List Passage → SurfaceNow → PlainSurfacePart
 part_along passages surface = part_over surface.id surface.first surface.records passages
 
 -- the mounts of some actors on the surface of that id
-abbrev pub all_mounts_on : (id : ℕ) → List Worker → List PlainMount
-all_mounts_on id workers = flat_map (λ worker. mounts_made_on id worker.actor.mounts) workers
+abbrev pub mounts_of : (id : ℕ) → List RunningActor → List PlainMount
+mounts_of id actors = flat_map (λ actor. mounts_made_on id actor.mounts) actors
+
+-- the actors of some workers
+abbrev pub actors_of : List Worker → List RunningActor
+actors_of workers = map (λ worker. worker.actor) workers
 
 -- lists of mounts, one for each surface of these ids in their order: each has the mounts that are told of its id
 abbrev pub AreListed : (told : ℕ → List PlainMount) → (ids : List ℕ) → (lists : List (List MountPart)) → Type 0

@@ -1,6 +1,6 @@
 -- A run on threads: how its spines and passes begin, and what is made of them at the end.
 use Rattle.std.specs.Prelude.{◌≡◌, ℕ, ◌+◌, ◌≤◌, List, length, map, slice_get, Some}
-use Rattle.std.specs.List.{AllZip, flat_map}
+use Rattle.std.specs.List.{AllZip}
 use Rattle.std.specs.Map.{keys_of}
 use Rattle.shadow_frame.specs.declared.Size.{Size}
 use Rattle.tree_revision.specs.Script.{PlainActor, PlainScript}
@@ -11,7 +11,7 @@ use Rattle.mount_coordinator.specs.Mounted.{PlainCoordinator, IsBaseIn}
 use Rattle.run_report.specs.declared.journal.MountPart.{MountPart}
 use Rattle.run_report.specs.declared.journal.SurfacePart.{SurfacePart}
 use Rattle.run_report.specs.declared.journal.Journal.{Journal}
-use Rattle.run_report.specs.Journal.{PlainMount, PlainSurfacePart, plain_mount, plain_surface_part, plain_actor_part}
+use Rattle.run_report.specs.Journal.{PlainSurfacePart, plain_mount, plain_surface_part, plain_actor_part}
 use Rattle.run_report.specs.Machine.{actor_part_of}
 use Rattle.run_report.specs.Mounts.{Passage, last_to, mount_along}
 use Rattle.run_report.specs.Shorthands.{begun}
@@ -21,9 +21,8 @@ use Rattle.commit_spine.specs.SpineRule.{AllStandIn}
 use Rattle.commit_spine.specs.SpinePasses.{PassValue}
 use Rattle.commit_spine.specs.Calls.{IsPassOf}
 use Rattle.run_actor.specs.Actors.{RunningActor, actor_now}
-use Rattle.run_actor.specs.Runs.{mounts_made_on}
 use Rattle.run_engine.specs.Run.{commits_left}
-use Rattle.run_engine.specs.Ends.{AreListed, part_over}
+use Rattle.run_engine.specs.Ends.{AreListed, mounts_of, part_over}
 
 -- what the pass of a surface of that id and first size keeps before the first event: it has seen nothing, and has a share for each actor and one more, and a permit for each commit of theirs there
 abbrev pub kept_at_start : List PlainActor → (id : ℕ) → Size → KeptByPass
@@ -70,10 +69,6 @@ pub record ArePartsAtEnd (spines : List (ℕ × Spine)) (passes : List (ℕ × P
   pub each : (place : ℕ) (spine : ℕ × Spine) (pass : ℕ × PassValue) (coordinator : PlainCoordinator) (mounts : List MountPart) (part : SurfacePart)
       → slice_get spines place ≡ Some spine → slice_get passes place ≡ Some pass → slice_get mounted place ≡ Some coordinator
       → slice_get lists place ≡ Some mounts → slice_get parts place ≡ Some part → IsPartAtEnd spine.0 pass.1 coordinator mounts (plain_surface_part part)
-
--- the mounts of some actors on the surface of that id
-abbrev pub mounts_of : (id : ℕ) → List RunningActor → List PlainMount
-mounts_of id actors = flat_map (λ actor. mounts_made_on id actor.mounts) actors
 
 -- a journal has the parts of these actors, and those of the surfaces at their ends with the actors' mounts
 pub record IsJournalOf (spines : List (ℕ × Spine)) (passes : List (ℕ × PassValue)) (actors : List RunningActor) (mounted : List PlainCoordinator) (journal : Journal) : Type 0 where

@@ -1,15 +1,12 @@
-use Rattle.std.proofs.Common.{◌≡◌, ℕ, List, ◌∷◌, [], ◌++◌, length, slice_get, arith, ap, sym, ◌∙◌, subst, length-append, append-nil, ◌+◌}
-use Rattle.std.specs.Prelude.{Some}
-use Rattle.std.proofs.lemmas.List.{nil_from_length}
+use Rattle.std.proofs.Common.{◌≡◌, List, ◌∷◌, [], ◌++◌, length, slice_get, arith, ap, sym, ◌∙◌, subst, length-append, append-nil, ◌+◌}
 use Rattle.std.proofs.lemmas.Option.{none-some}
 use Rattle.run_report.specs.declared.journal.SurfacePart.{SurfacePart}
-use Rattle.mount_coordinator.specs.Mounted.{PlainCoordinator}
 use Rattle.tree_revision.specs.declared.record.Record.{Record}
 use Rattle.commit_core.specs.Plain.{plain_records}
 use Rattle.run_engine.specs.Ends.{IsClosedPart}
 use Rattle.run_engine.specs.Spines.{MayClose}
 use Rattle.run_engine.proofs.Finishing.{at_yielded, yielded_next}
-use Rattle.run_engine.proofs.SpinesClosed.{EndsAt, dropped_next, left_next, may_close_next, may_finish, part_at_end, ends_next}
+use Rattle.run_engine.proofs.SpinesClosed.{dropped_next, left_next, may_close_next, may_finish, part_at_end, ends_next}
 use Rattle.run_engine.proofs.spines.close_spines.Goals as goal
 
 pub loop-id-init : goal.loop-id-init

@@ -3,11 +3,9 @@ use Rattle.indexmap.specs.IndexMap.{keys}
 use Rattle.run_report.specs.Journal.{plain_actor_part}
 use Rattle.run_report.specs.Machine.{actor_part_of}
 use Rattle.run_actor.specs.Actors.{RunningActor, actor_now}
-use Rattle.run_engine.specs.Ends.{AreListed}
-use Rattle.run_engine.specs.Spines.{mounts_of}
+use Rattle.run_engine.specs.Ends.{AreListed, mounts_of}
 use Rattle.run_engine.proofs.Finishing.{yielded_next}
-use Rattle.run_engine.proofs.Gathered.{lists_begun, keys_length, all_came}
-use Rattle.run_engine.proofs.SpinesClosed.{mounts_next, parts_push}
+use Rattle.run_engine.proofs.Gathered.{lists_begun, keys_length, mounts_next, actors_next, all_came}
 use Rattle.run_engine.proofs.thread_run.close_run.Goals as goal
 
 pub loop-actor-init : goal.loop-actor-init
@@ -22,7 +20,7 @@ loop-actor-init c =
 pub loop-actor-preserved : goal.loop-actor-preserved
 loop-actor-preserved c = (
   yielded_next c.args.worked.actors.items c.loop-actor.yielded c.loop-actor.actor-iterator.rest.items c.next.new.self.rest.items c.in-Some.actor c.loop-actor.invariant.0 c.in-Some.ensures.steps.0,
-  parts_push c.loop-actor.yielded c.in-Some.actor c.loop-actor.parts c.push.new.self c.in_ok-part.part c.loop-actor.invariant.1 c.in_ok-push.ensures.ok c.in_ok-part.ensures.part,
+  actors_next (λ actor. actor_part_of (actor_now actor)) c.loop-actor.yielded c.in-Some.actor c.loop-actor.parts c.push.new.self c.in_ok-part.part c.loop-actor.invariant.1 c.in_ok-push.ensures.ok c.in_ok-part.ensures.part,
   c.in_ok-sort_out.ensures.count,
   mounts_next c.loop-actor.yielded c.in-Some.actor c.in_ok-part.own.items (keys c.args.spines) c.sort_out.new.lists.items c.in_ok-part.ensures.mounts
       (c.in_ok-sort_out.ensures.joined (λ id. mounts_of id c.loop-actor.yielded) c.loop-actor.invariant.3),

@@ -3,8 +3,7 @@ use Rattle.indexmap.specs.IndexMap.{keys}
 use Rattle.run_report.specs.Journal.{plain_actor_part}
 use Rattle.run_report.specs.Machine.{actor_part_of}
 use Rattle.run_actor.specs.Actors.{actor_now}
-use Rattle.run_engine.specs.Ends.{AreListed}
-use Rattle.run_engine.specs.Spines.{mounts_of}
+use Rattle.run_engine.specs.Ends.{AreListed, mounts_of}
 use Rattle.run_engine.proofs.thread_run.close_run.Given as goal
 
 abbrev pub invariant-loop-actor : goal.invariant-loop-actor
