@@ -5,3 +5,4 @@ pub mod Run
 pub mod Ends
 pub mod Opening
 pub mod Workers
+pub mod Jobs

@@ -10,12 +10,15 @@ ghost use Rattle.run_report.specs.Named.{NamesItsActors};
 ghost use Rattle.run_engine.specs.Numbers.{IsWithinNumbers};
 
 mod desks;
+mod gathering;
+mod jobs;
 mod opening;
 mod parts;
 mod runs;
 #[cfg(test)]
 mod tests;
 mod threads;
+mod work;
 mod workers;
 
 pub use run_actor::{Actor, Desk, Event, FreeGate, Gate};

@@ -9,6 +9,10 @@ ghost use Rattle.run_report.specs.Named.{NamesItsActors};
 ghost use Rattle.run_engine.specs.Numbers.{IsWithinNumbers};
 ghost use Rattle.run_engine.specs.Workers.{HaveWorked, MayWork};
 
+use crate::gathering::gather;
+use crate::jobs::{coordinators_of, jobs_of};
+use crate::opening::openings_of;
+use crate::work::run_jobs;
 use commit_spine::{Spine, SpinePass};
 use indexmap::IndexMap;
 use mount_coordinator::Coordinator;
@@ -46,7 +50,13 @@ pub fn run_workers<'a, R: Threads + Wait + Sync, G: Gate + Sync>(
     requires passes { MayWork (plain_script script.now) spines.now.entries passes.old.entries }
     ensures worked { IfOk result (λ worked. HaveWorked (plain_script script.now) passes.old.entries passes.new.entries worked.actors.items worked.mounts.items) }
 {
-    Err(AllocError)
+    let first = openings_of(alloc, script.surfaces.as_slice())?;
+    let mounts = coordinators_of(alloc, &first)?;
+    let plans = script.actors.as_slice();
+    let actors = Vec::with_capacity(alloc, plans.len())?;
+    let mut jobs = jobs_of(alloc, plans, &first, spines, passes)?;
+    run_jobs(rt, alloc, &mut jobs, spines, gate)?;
+    gather(spines, passes, jobs, mounts, actors)
 }
 
 /// Runs a script on threads, and answers the journal of the run. Its list of turns is not used.
