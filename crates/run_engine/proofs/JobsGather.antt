@@ -4,7 +4,7 @@ use Rattle.std.specs.Prelude.{Some, None, Option, count_by, sum_by, cond, unwrap
 use Rattle.std.specs.List.{flat_map, enumerate_from}
 use Rattle.std.specs.Map.{keys_of}
 use Rattle.std.proofs.lemmas.Option.{none-some, same_Some, slice_get_within}
-use Rattle.std.proofs.lemmas.List.{map-append, length-take}
+use Rattle.std.proofs.lemmas.List.{length-map, length-take, map-append, nil_from_length, take_all}
 use Rattle.std.proofs.lemmas.List.Sums.{fold-append, sum_by-append}
 use Rattle.counts.specs.Raised.{raised}
 use Rattle.tree_revision.specs.Records.{PlainRecord}
@@ -30,7 +30,9 @@ use Rattle.run_engine.specs.declared.jobs.Job.{Job}
 use Rattle.run_engine.specs.Run.{commits_left}
 use Rattle.run_engine.specs.Workers.{HasWorkedOn, records_by, records_from, passages_of}
 use Rattle.run_engine.specs.Jobs.{AreDone, AreGathered, AreJoined, AreKept, HasGathered, HasLeft, IsJoin, LeavesBase, MayGather, MayJoin}
+use Rattle.run_engine.proofs.Gathered.{keys_length}
 use Rattle.run_engine.proofs.Openings.{commits_left-push, take_push}
+use Rattle.run_engine.proofs.Places.{drop_head, drop_tail}
 
 -- a count that rose from its start by one number and then by another
 pub raised_both : (count one other : ℕ) → raised (raised count one) (raised 0 other) ≡ raised count (one + other)
@@ -104,7 +106,7 @@ passages_of-push id actors actor =
 
 -- the last of some passages, and of others behind them
 last_of_more : (passages more : List Passage) → (more ≡ [] → passages ≡ []) → last_to (passages ++ more) ≡ last_to more
-last_of_more passages [] none = sym (ap last_to (append-nil passages)) ∙ ap last_to (none refl)
+last_of_more passages [] none = ap last_to (append-nil passages) ∙ ap last_to (none refl)
 last_of_more passages (step ∷ more) none = fold-append (λ (number : ℕ) (step : Passage). step.to) 0 passages (step ∷ more)
 
 -- one actor more is counted
@@ -128,7 +130,7 @@ module _ (surface : PlainSurface) (done : List PlainActor) (plan : PlainActor) (
       × (count_by (mounts_on surface.id) (done ++ plan ∷ []) ≡ 0 → passages_of surface.id (actors ++ actor ∷ []) ≡ [])
   base_of_mine None same leaves =
       let all : passages_of surface.id (actors ++ actor ∷ []) ≡ passages_of surface.id actors =
-      all_passages ∙ ap (λ l. passages_of surface.id actors ++ l) leaves.1 ∙ sym (append-nil (passages_of surface.id actors)) in (
+      all_passages ∙ ap (λ l. passages_of surface.id actors ++ l) leaves.1 ∙ append-nil (passages_of surface.id actors) in (
         ap (λ (c : PlainCoordinator). c.base.number) same ∙ before.base ∙ ap last_to (sym all),
         still_base surface.size was.kept.seen is.kept.seen after.base join.seen (subst (λ (c : PlainCoordinator). IsBaseIn surface.size was.kept.seen c.base) (sym same) before.stands),
         λ none. all ∙ before.none (let c = count_push surface.id done plan in omega (arith, c, none)),
@@ -200,13 +202,9 @@ module _ (surface : PlainSurface) (done : List PlainActor) (plan : PlainActor) (
         none = base.2;
       }
 
--- a list of keys is as long as the list
-pub length_keys : {A : Type 0} (entries : List (ℕ × A)) → length (keys_of entries) ≡ length entries
-length_keys [] = refl
-length_keys (e ∷ entries) = ap suc (length_keys entries)
-
+-- lists with the same keys are as long
 pub same_length : {A B : Type 0} (us : List (ℕ × A)) (vs : List (ℕ × B)) → keys_of us ≡ keys_of vs → length us ≡ length vs
-same_length us vs same = sym (length_keys us) ∙ ap length same ∙ length_keys vs
+same_length us vs same = sym (keys_length us) ∙ ap length same ∙ keys_length vs
 
 -- what stands at a place of a list, where another as long has something there
 pub there_too : {A B : Type 0} (us : List A) (vs : List B) (i : ℕ) (u : A) → slice_get us i ≡ Some u → length vs ≡ length us → (v : B) × (slice_get vs i ≡ Some v)
@@ -269,6 +267,55 @@ module _ (spines : List (ℕ × Spine)) (passes new : List (ℕ × PassValue)) (
     own_mounts = λ number own at. may.own_mounts (suc number) own at ∙ sym keeps.count;
   }
 
-pub may_join : (spines : List (ℕ × Spine)) (passes : List (ℕ × PassValue)) (job : Job) (rest : List Job) (mounts : List PlainCoordinator) → MayGather spines passes (job ∷ rest) mounts
-    → MayJoin spines passes job.passes.items
-may_join spines passes job rest mounts may = record { count = may.count; kept = may.kept; own_passes = may.own_passes 0 job refl }
+-- whose actor a job is
+abbrev pub actor_of : Job → RunningActor
+actor_of job = job.actor
+
+-- how far the jobs were taken apart: their actors stand in order, the rest is left and may be, and what was gathered is that of the first actors
+module _ (spines : List (ℕ × Spine)) (jobs : List Job) (old : List (ℕ × PassValue)) (first : List PlainCoordinator) where
+  pub record HaveCome (rest : List Job) (actors : List RunningActor) (now : List (ℕ × PassValue)) (mounts : List PlainCoordinator) : Type 0 where
+    pub actors_are : map actor_of jobs ≡ actors ++ map actor_of rest
+    pub left : drop (length actors) jobs ≡ rest
+    pub may : MayGather spines now rest mounts
+    pub gathered : (surfaces : List PlainSurface) (plans : List PlainActor) → AreDone surfaces plans jobs → AreGathered surfaces [] [] old old first
+        → AreGathered surfaces (take (length actors) plans) actors old now mounts
+
+  pub none_came : (rest : List Job) (actors : List RunningActor) → rest ≡ jobs → actors ≡ [] → MayGather spines old jobs first → HaveCome rest actors old first
+  none_came rest actors all none may =
+      subst (λ r. HaveCome r actors old first) (sym all)
+      (subst (λ a. HaveCome jobs a old first) (sym none) (record { actors_are = refl; left = refl; may = may; gathered = λ surfaces plans done start. start }))
+
+  module _ (rest more : List Job) (job : Job) (actors all : List RunningActor) (now new : List (ℕ × PassValue)) (mounts kept : List PlainCoordinator) (come : HaveCome rest actors now mounts)
+      (next : rest ≡ job ∷ more) where
+    next_may : MayGather spines now (job ∷ more) mounts
+    next_may = subst (λ r. MayGather spines now r mounts) next come.may
+
+    pub next_joins : MayJoin spines now job.passes.items
+    next_joins = record { count = next_may.count; kept = next_may.kept; own_passes = next_may.own_passes 0 job refl }
+
+    pub next_keeps : length job.mounts.items ≡ length mounts
+    next_keeps = next_may.own_mounts 0 job refl
+
+    pub one_more_came : AreJoined now new job.passes.items → AreKept mounts kept job.mounts.items → all ≡ actors ++ job.actor ∷ [] → HaveCome more all new kept
+    one_more_came joined keeps grown =
+        let longer = length-append actors (job.actor ∷ []) in
+        let s : length all ≡ suc (length actors) = omega (arith, ap length grown, longer) in
+        let at : slice_get jobs (length actors) ≡ Some job = drop_head jobs (length actors) job more (come.left ∙ next) in
+        record {
+          actors_are = come.actors_are ∙ ap (λ l. actors ++ map actor_of l) next ∙ sym (append_assoc actors (job.actor ∷ []) (map actor_of more)) ∙ ap (λ l. l ++ map actor_of more) (sym grown);
+          left = drop_tail jobs (length actors) (length all) job more s (come.left ∙ next);
+          may = may_gather_next spines now new job more mounts kept next_may joined keeps;
+          gathered = λ surfaces plans done start.
+              subst (λ n. AreGathered surfaces (take n plans) all old new kept) (sym s)
+              (subst (λ l. AreGathered surfaces (take (suc (length actors)) plans) l old new kept) (sym grown)
+              (all_gathered_next surfaces plans jobs (length actors) job actors old now new mounts kept done at (come.gathered surfaces plans done start) joined keeps));
+        }
+
+  module _ (rest : List Job) (actors : List RunningActor) (now : List (ℕ × PassValue)) (mounts : List PlainCoordinator) (come : HaveCome rest actors now mounts) (none : length rest ≡ 0) where
+    pub all_actors : actors ≡ map actor_of jobs
+    all_actors = sym (come.actors_are ∙ ap (λ l. actors ++ map actor_of l) (nil_from_length rest none) ∙ append-nil actors)
+
+    pub all_gathered : (surfaces : List PlainSurface) (plans : List PlainActor) → AreDone surfaces plans jobs → AreGathered surfaces [] [] old old first → AreGathered surfaces plans actors old now mounts
+    all_gathered surfaces plans done start =
+        let n : length actors ≡ length plans = ap length all_actors ∙ length-map jobs actor_of ∙ done.count in
+        subst (λ l. AreGathered surfaces l actors old now mounts) (take_all (length actors) plans (omega (arith, n))) (come.gathered surfaces plans done start)

@@ -69,7 +69,7 @@ keys_take zero entries = refl
 keys_take (suc n) [] = refl
 keys_take (suc n) (e ∷ entries) = ap (λ l. e.0 ∷ l) (keys_take n entries)
 
-keys_at : {A : Type 0} (entries : List (ℕ × A)) (i : ℕ) (e : ℕ × A) → slice_get entries i ≡ Some e → slice_get (keys_of entries) i ≡ Some e.0
+pub keys_at : {A : Type 0} (entries : List (ℕ × A)) (i : ℕ) (e : ℕ × A) → slice_get entries i ≡ Some e → slice_get (keys_of entries) i ≡ Some e.0
 keys_at [] i e at = absurd (none-some e at)
 keys_at (x ∷ entries) zero e at = ap (λ (x : ℕ × _). Some x.0) (same_Some x e at)
 keys_at (x ∷ entries) (suc i) e at = keys_at entries i e at

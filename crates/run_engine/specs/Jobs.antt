@@ -1,6 +1,6 @@
 -- The jobs of the workers: how they are dealt, and what each leaves. Only contracts inside the crate cite it.
-use Rattle.std.specs.Prelude.{◌≡◌, ℕ, ◌+◌, ◌-◌, ◌≤◌, List, [], ◌∷◌, length, map, sum_by, count_by, Contains, true, false, slice_get, Option, None, Some, unwrap_or}
-use Rattle.std.specs.List.{AllZip, flat_map, enumerate_from}
+use Rattle.std.specs.Prelude.{◌≡◌, ℕ, ◌+◌, ◌-◌, ◌≤◌, List, [], ◌∷◌, length, map, sum_by, count_by, nat_eq, Contains, true, false, slice_get, Option, None, Some, unwrap_or}
+use Rattle.std.specs.List.{AllZip, IsDistinct}
 use Rattle.std.specs.Map.{keys_of}
 use Rattle.counts.specs.Raised.{raised}
 use Rattle.tree_revision.specs.Records.{PlainRecord}
@@ -107,6 +107,7 @@ pub record AreDesksOf (spines : List (ℕ × Spine)) (passes : List PassValue) (
 
 -- a worker may run a job over these spines
 pub record MayRun (spines : List (ℕ × Spine)) (job : Job) : Type 0 where
+  pub ids : IsDistinct nat_eq (keys_of spines)
   pub begun_actor : IsBegun job.actor
   pub passes : AreOfSpines spines job.passes.items
   pub mounts : length job.mounts.items ≡ length spines

@@ -1,6 +1,6 @@
 //! What the workers leave is gathered, in the order of the actors.
 
-ghost use Rattle.std.specs.Prelude.{◌≡◌, List, [], IfOk, length, map};
+ghost use Rattle.std.specs.Prelude.{◌≡◌, List, [], IfOk, length, map, unwrap_or};
 ghost use Rattle.tree_revision.specs.Script.{PlainActor, PlainSurface};
 ghost use Rattle.run_engine.specs.Jobs.{AreDone, AreGathered, AreJoined, AreKept, MayGather, MayJoin};
 
@@ -34,6 +34,15 @@ fn join_passes(
     }
 }
 
+/// Keeps an actor's coordinator in place of another, where it has one.
+fn keep_mount(kept: &mut Coordinator, mine: Option<Coordinator>)
+    ensures { kept.new ≡ unwrap_or mine kept.old }
+{
+    if let Some(coordinator) = mine {
+        *kept = coordinator;
+    }
+}
+
 /// Keeps an actor's coordinators in place of those that mounted nothing.
 fn keep_mounts(mounts: &mut Vec<Coordinator>, own: Vec<Option<Coordinator>>)
     requires { length own.items ≡ length mounts.old.items }
@@ -41,9 +50,7 @@ fn keep_mounts(mounts: &mut Vec<Coordinator>, own: Vec<Option<Coordinator>>)
 {
     let mut place = 0;
     for mount in own {
-        if let Some(coordinator) = mount {
-            mounts[place] = coordinator;
-        }
+        keep_mount(&mut mounts[place], mount);
         place += 1;
     }
 }
@@ -60,7 +67,7 @@ pub(crate) fn gather<'a>(
     requires may { MayGather spines.now.entries passes.old.entries jobs.items mounts.items }
     requires empty { actors.items ≡ [] }
     ensures actors { IfOk result (λ worked. worked.actors.items ≡ map (λ job. job.actor) jobs.entry.items) }
-    ensures gathered { IfOk result (λ worked. (surfaces : List PlainSurface) (plans : List PlainActor) → AreDone surfaces plans jobs.entry.items → AreGathered surfaces [] [] passes.old.entries passes.old.entries mounts.entry.items
+    ensures gathered { IfOk result (λ worked. (surfaces : List PlainSurface) (plans : List PlainActor) → AreDone surfaces plans jobs.entry.items → AreGathered surfaces [] [] passes.old.entries passes.old.entries mounts.items
         → AreGathered surfaces plans worked.actors.items passes.old.entries passes.new.entries worked.mounts.items) }
 {
     for job in jobs {

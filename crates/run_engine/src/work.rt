@@ -1,6 +1,8 @@
 //! A worker runs its job: its actor, to its end, at desks of its own.
 
-ghost use Rattle.std.specs.Prelude.{◌≡◌, false, [], IfOk, OnOk, length, map};
+ghost use Rattle.std.specs.Prelude.{◌≡◌, false, [], IfOk, OnOk, length, map, nat_eq};
+ghost use Rattle.std.specs.List.{IsDistinct, list_any};
+ghost use Rattle.std.specs.Map.{keys_of};
 ghost use Rattle.run_engine.specs.Jobs.{AreDesksOf, AreOfSpines, AreRun, HasRunJob, MayRun, MayRunEach, mount_at_desk, pass_at_desk};
 
 use crate::jobs::Job;
@@ -24,6 +26,7 @@ fn desks_with<'a>(
     mounts: Vec<Option<Coordinator>>,
     mut desks: IndexMap<u32, Desk<SpinePort<'a>>>,
 ) -> Result<IndexMap<u32, Desk<SpinePort<'a>>>, AllocError>
+    requires ids { IsDistinct nat_eq (keys_of spines.now.entries) }
     requires passes { AreOfSpines spines.now.entries passes.items }
     requires mounts { length mounts.items ≡ length spines.now.entries }
     requires empty { desks.entries ≡ [] }
@@ -103,6 +106,18 @@ impl<'a> Job<'a> {
     }
 }
 
+/// Whether want of memory ended one of these jobs.
+fn some_short(jobs: &[Job]) -> bool
+    ensures { result ≡ list_any (λ job. job.short) jobs.now }
+{
+    for job in jobs {
+        if job.short {
+            return true;
+        }
+    }
+    false
+}
+
 /// Runs each job, on a thread of its own where one can be started. It is refused where want of memory
 /// ended one of them; the others ran to their ends.
 pub(crate) fn run_jobs<R: Threads + Wait + Sync, G: Gate + Sync>(
@@ -118,6 +133,5 @@ pub(crate) fn run_jobs<R: Threads + Wait + Sync, G: Gate + Sync>(
     for number in 0..jobs.len() {
         jobs[number].work(rt, alloc, spines, gate);
     }
-    let short = jobs.iter().any(|job| job.short);
-    if short { Err(AllocError) } else { Ok(()) }
+    if some_short(jobs) { Err(AllocError) } else { Ok(()) }
 }

@@ -4,6 +4,5 @@ use Rattle.run_engine.proofs.work.taken_apart.Given as goal
 
 abbrev pub invariant-loop-desk : goal.invariant-loop-desk
 invariant-loop-desk l =
-    (l.fn.desks.entries ≡ l.yielded ++ l.desk-iterator)
-    × (l.passes.items ≡ map pass_at_desk l.yielded)
-    × (l.mounts.items ≡ map mount_at_desk l.yielded)
+    (map pass_at_desk l.fn.desks.entries ≡ l.passes.items ++ map pass_at_desk l.desk-iterator)
+    × (map mount_at_desk l.fn.desks.entries ≡ l.mounts.items ++ map mount_at_desk l.desk-iterator)
