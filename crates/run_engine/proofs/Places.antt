@@ -1,6 +1,6 @@
 -- Lists that are changed place by place.
 use Rattle.std.proofs.Common.{◌≡◌, ℕ, zero, suc, ◌<◌, ◌≤◌, Bool, true, false, List, [], ◌∷◌, ◌++◌, length, map, take, drop, slice_get, slice_set, arith, refl, ap, sym, subst, ◌∙◌, inl, inr}
-use Rattle.std.specs.Prelude.{Some, Result, Ok, Err, OnOk, is_err}
+use Rattle.std.specs.Prelude.{Some, Result, Ok, Err, IfOk, OnOk, is_err}
 use Rattle.std.specs.List.{list_any}
 use Rattle.std.specs.Map.{values_of}
 use Rattle.std.proofs.lemmas.Bool.{cases_Bool, cases_eq, true≢false}
@@ -107,3 +107,8 @@ none_at p xs i x none at =
 pub of_ok : {T E : Type 0} (result : Result T E) (P : Type 0) → is_err result ≡ false → OnOk result P → P
 of_ok (Ok value) P e p = p
 of_ok (Err error) P e p = absurd (true≢false e)
+
+-- what follows from two promises of a call that succeeded
+pub if_ok_both : {T E : Type 0} (result : Result T E) (P Q R : T → Type 0) → ((x : T) → P x → Q x → R x) → IfOk result P → IfOk result Q → IfOk result R
+if_ok_both (Ok value) P Q R both p q = both value p q
+if_ok_both (Err error) P Q R both p q = tt

@@ -1,5 +1,6 @@
 use Rattle.std.proofs.Common.{◌≡◌, ◌<◌, ◌≤◌, ◌+◌, suc, false, length, slice_get, arith, ap, sym, ◌∙◌, subst}
 use Rattle.std.specs.Prelude.{Some}
+use Rattle.std.specs.List.{list_any}
 use Rattle.std.proofs.lemmas.List.{length-set}
 use Rattle.std.proofs.lemmas.Option.{slice_get_within}
 use Rattle.run_engine.specs.declared.jobs.Job.{Job}
@@ -27,4 +28,10 @@ loop-number-preserved g c =
     )
 
 pub returns-else-some_short : goal.returns-else-some_short
-returns-else-some_short g c = ?
+returns-else-some_short g c = record {
+  count = c.loop-number.invariant.0;
+  each = λ n was is w i.
+      let within = slice_get_within c.loop-number.jobs.items n is i in
+      let none = ap (list_any (λ (job : Job). job.short)) (sym c.deref.ensures.value) ∙ sym c.some_short.ensures ∙ c.if-some_short.false in
+      c.loop-number.invariant.1 n was is (omega (arith, within)) w i (none_at (λ (job : Job). job.short) c.loop-number.jobs.items n is none i);
+}
