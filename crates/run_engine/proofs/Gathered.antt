@@ -18,12 +18,12 @@ use Rattle.run_report.specs.Journal.{PlainMount, PlainActorPart, PlainSurfacePar
 use Rattle.run_report.specs.Machine.{SurfaceNow, actor_part_of}
 use Rattle.run_report.specs.Mounts.{Passage, passages_by, mount_along}
 use Rattle.run_report.specs.Shorthands.{passages_named}
-use Rattle.run_report.proofs.Kept.{IsRunOf, IsSurfaceKept, IsSurfaceOf}
+use Rattle.run_report.proofs.Kept.{IsSurfaceKept, IsSurfaceOf}
 use Rattle.run_report.proofs.Lists.{flat_map_push}
 use Rattle.run_report.proofs.Pairs.{all_zip_length}
 use Rattle.run_engine.specs.declared.workers.Worker.{Worker}
 use Rattle.run_engine.specs.declared.runs.Run.{Run}
-use Rattle.run_engine.specs.Now.{PlainDesk, desk_records, surface_now, worker_now, run_now}
+use Rattle.run_engine.specs.Now.{PlainDesk, desk_records, surface_now, worker_now}
 use Rattle.run_engine.specs.Run.{HasCome, IsOpen}
 use Rattle.run_actor.specs.Runs.{mounts_made_on}
 use Rattle.run_engine.specs.Ends.{AreListed, IsAlong, all_mounts_on, part_along}
