@@ -1,14 +1,14 @@
 -- A job is run at desks that are made of its passes.
-use Rattle.std.proofs.Common.{◌≡◌, ℕ, zero, suc, List, [], ◌∷◌, ◌++◌, length, map, take, slice_get, arith, refl, ap, sym, subst, ◌∙◌, append_assoc, append-nil, length-append}
-use Rattle.std.specs.Prelude.{Some, None, Option, Contains, Vec, nat_eq}
+use Rattle.std.proofs.Common.{◌≡◌, ℕ, zero, suc, List, [], ◌∷◌, ◌++◌, length, map, take, slice_get, get_or, false, ◌<◌, arith, refl, ap, sym, subst, ◌∙◌, append_assoc, append-nil, length-append}
+use Rattle.std.specs.Prelude.{Some, None, Option, All, Contains, Vec, nat_eq}
 use Rattle.std.specs.declared.alloc.Global.{Global}
 use Rattle.std.specs.Option.{option_map}
-use Rattle.std.specs.List.{IsDistinct}
+use Rattle.std.specs.List.{IsDistinct, list_any}
 use Rattle.std.specs.Map.{keys_of, lookup}
 use Rattle.std.proofs.lemmas.Cmp.{nat_eq_equiv}
 use Rattle.std.proofs.lemmas.List.{length-map, map-append}
 use Rattle.std.proofs.lemmas.Map.Entries.{lookup_from_place}
-use Rattle.std.proofs.lemmas.Option.{same_Some, slice_get-map}
+use Rattle.std.proofs.lemmas.Option.{get_or_from_slice_get, same_Some, slice_get-map, slice_get_within}
 use Rattle.tree_revision.specs.Script.{PlainStep}
 use Rattle.mount_coordinator.specs.Mounted.{PlainCoordinator}
 use Rattle.commit_spine.specs.declared.spine_parts.Spine.{Spine}
@@ -17,10 +17,12 @@ use Rattle.commit_spine.specs.SpinePorts.{spine_told}
 use Rattle.run_actor.specs.Actors.{RunningActor}
 use Rattle.run_actor.specs.Runs.{HasRun, HasRunOn, MayBegin}
 use Rattle.run_engine.specs.declared.jobs.Job.{Job}
-use Rattle.run_engine.specs.Jobs.{AreDesksOf, AreOfSpines, HasRunJob, MayRun, SpineDesk, mount_at_desk, pass_at_desk}
+use Rattle.run_engine.specs.Jobs.{AreDesksOf, AreRun, HasRunJob, HasWorkedOff, MayRun, MayRunEach, SpineDesk, mount_at_desk, pass_at_desk}
 use Rattle.run_engine.proofs.JobsDone.{made_at}
 use Rattle.run_engine.proofs.JobsGather.{same_length, there_too}
-use Rattle.run_engine.proofs.Openings.{is_new, keys_at, keys_map, take_push}
+use Rattle.run_engine.proofs.Loops.{there_at}
+use Rattle.run_engine.proofs.Openings.{keys_at, keys_map, take_push}
+use Rattle.run_engine.proofs.Places.{none_at}
 
 -- keys that agree, at a place
 pub same_key : {A B : Type 0} (us : List (ℕ × A)) (vs : List (ℕ × B)) (i : ℕ) (u : ℕ × A) (v : ℕ × B) → keys_of us ≡ keys_of vs → slice_get us i ≡ Some u → slice_get vs i ≡ Some v → u.0 ≡ v.0
@@ -109,4 +111,19 @@ desks_made spines desks taken passes took mounts same the_same are = record {
   ids = are.ids;
   passes_are = are.passes_are ∙ ap (λ (v : Vec PassValue Global). v.items) same;
   mounts_are = are.mounts_are ∙ ap (λ (v : Vec (Option PlainCoordinator) Global). v.items) the_same;
+}
+
+-- what is promised of each, at its place
+pub may_run_all : (spines : List (ℕ × Spine)) (jobs : List Job) → MayRunEach spines jobs → All (MayRun spines) jobs
+may_run_all spines jobs each i d below = each i (get_or jobs i d) (there_at jobs i d below)
+
+pub are_run : (spines : List (ℕ × Spine)) (old new : List Job) → length new ≡ length old → ((i : ℕ) (d : Job) → i < length old → HasWorkedOff spines (get_or old i d) (get_or new i d))
+    → list_any (λ job. job.short) new ≡ false → AreRun spines old new
+are_run spines old new count each none = record {
+  count = count;
+  each = λ n was is w i.
+      let below : n < length old = slice_get_within old n was w in
+      let ran : HasWorkedOff spines was is = subst (λ (j : Job). HasWorkedOff spines was j) (get_or_from_slice_get new n is was i)
+      (subst (λ (j : Job). HasWorkedOff spines j (get_or new n was)) (get_or_from_slice_get old n was was w) (each n was below)) in
+      ran (none_at (λ (job : Job). job.short) new n is none i);
 }

@@ -126,6 +126,10 @@ pub record HasRunJob (spines : List (ℕ × Spine)) (was is : Job) : Type 0 wher
       → slice_get was.mounts.items place ≡ Some before → slice_get is.mounts.items place ≡ Some after
       → HasRunOn spine.0 (spine_told begun) (spine_told ended) before after was.actor is.actor
 
+-- a worker has run a job, but where want of memory ended it
+abbrev pub HasWorkedOff : List (ℕ × Spine) → (was is : Job) → Type 0
+HasWorkedOff spines was is = is.short ≡ false → HasRunJob spines was is
+
 -- so each of some jobs
 abbrev pub MayRunEach : List (ℕ × Spine) → List Job → Type 0
 MayRunEach spines jobs = (number : ℕ) (job : Job) → slice_get jobs number ≡ Some job → MayRun spines job

@@ -1,9 +1,9 @@
 //! A worker runs its job: its actor, to its end, at desks of its own.
 
-ghost use Rattle.std.specs.Prelude.{◌≡◌, false, [], IfOk, OnOk, length, map, nat_eq};
+ghost use Rattle.std.specs.Prelude.{◌≡◌, ◌<◌, ℕ, [], All, IfOk, OnOk, length, map, nat_eq, slice_index_or};
 ghost use Rattle.std.specs.List.{IsDistinct, list_any};
 ghost use Rattle.std.specs.Map.{keys_of};
-ghost use Rattle.run_engine.specs.Jobs.{AreDesksOf, AreOfSpines, AreRun, HasRunJob, MayRun, MayRunEach, mount_at_desk, pass_at_desk};
+ghost use Rattle.run_engine.specs.Jobs.{AreDesksOf, AreOfSpines, AreRun, HasRunJob, HasWorkedOff, MayRun, MayRunEach, mount_at_desk, pass_at_desk};
 
 use crate::jobs::Job;
 use crate::opening::add_new;
@@ -100,7 +100,7 @@ impl<'a> Job<'a> {
         gate: &G,
     )
         requires { MayRun spines.now.entries self.old }
-        ensures { self.new.short ≡ false → HasRunJob spines.now.entries self.old self.new }
+        ensures { HasWorkedOff spines.now.entries self.old self.new }
     {
         self.short = self.run(rt, alloc, spines, gate).is_err();
     }
@@ -118,20 +118,39 @@ fn some_short(jobs: &[Job]) -> bool
     false
 }
 
+/// Runs each job, on a thread of its own where one can be started. It takes no memory.
+fn run_each<R: Threads + Wait + Sync, G: Gate + Sync>(
+    rt: &R,
+    alloc: Global,
+    jobs: &mut [Job],
+    spines: &IndexMap<u32, Spine>,
+    gate: &G,
+)
+    requires { All (MayRun spines.now.entries) jobs.old }
+    ensures count { length jobs.new ≡ length jobs.old }
+    ensures each { (i : ℕ) (d : Job) → i < length jobs.old → HasWorkedOff spines.now.entries (slice_index_or jobs.old i d) (slice_index_or jobs.new i d) }
+{
+    thread::for_each_mut(rt, jobs, jobs.len().max(1), &|_, job| {
+        job.work(rt, alloc, spines, gate)
+    });
+}
+
 /// Runs each job, on a thread of its own where one can be started. It is refused where want of memory
 /// ended one of them; the others ran to their ends.
 pub(crate) fn run_jobs<R: Threads + Wait + Sync, G: Gate + Sync>(
     rt: &R,
     alloc: Global,
-    jobs: &mut Vec<Job>,
+    jobs: &mut [Job],
     spines: &IndexMap<u32, Spine>,
     gate: &G,
 ) -> Result<(), AllocError>
-    requires { MayRunEach spines.now.entries jobs.old.items }
-    ensures { OnOk result (AreRun spines.now.entries jobs.old.items jobs.new.items) }
+    requires { MayRunEach spines.now.entries jobs.old }
+    ensures { OnOk result (AreRun spines.now.entries jobs.old jobs.new) }
 {
-    for number in 0..jobs.len() {
-        jobs[number].work(rt, alloc, spines, gate);
+    run_each(rt, alloc, jobs, spines, gate);
+    if some_short(jobs) {
+        Err(AllocError)
+    } else {
+        Ok(())
     }
-    if some_short(jobs) { Err(AllocError) } else { Ok(()) }
 }
