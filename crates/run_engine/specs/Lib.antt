@@ -6,3 +6,4 @@ pub mod Ends
 pub mod Opening
 pub mod Workers
 pub mod Spines
+pub mod Jobs

@@ -10,6 +10,8 @@ ghost use Rattle.run_report.specs.Named.{NamesItsActors};
 ghost use Rattle.run_engine.specs.Numbers.{IsWithinNumbers};
 
 mod desks;
+mod gathering;
+mod jobs;
 mod opening;
 mod parts;
 mod runs;
@@ -18,6 +20,7 @@ mod spines;
 mod tests;
 mod thread_run;
 mod threads;
+mod work;
 mod workers;
 
 pub use run_actor::{Actor, Desk, Event, FreeGate, Gate};

@@ -38,7 +38,7 @@ pub(crate) fn openings_of(
 }
 
 /// How many of these steps are commits on the surface of that id.
-fn count_commits(steps: &[Step], id: u32) -> u64
+pub(crate) fn count_commits(steps: &[Step], id: u32) -> u64
     requires { length steps.now < 2 ^ 31 }
     ensures { result ≡ count_by (commits_on id) (map plain_step steps.now) }
 {

@@ -6,6 +6,10 @@ ghost use Rattle.script_read.specs.Plain.{plain_script};
 ghost use Rattle.run_engine.specs.Numbers.{IsWithinNumbers};
 ghost use Rattle.run_engine.specs.Workers.{HaveWorked, MayWork};
 
+use crate::gathering::gather;
+use crate::jobs::{coordinators_of, jobs_of};
+use crate::opening::openings_of;
+use crate::work::run_jobs;
 use commit_spine::{Spine, SpinePass};
 use indexmap::IndexMap;
 use mount_coordinator::Coordinator;
@@ -42,5 +46,11 @@ pub fn run_workers<'a, R: Threads + Wait + Sync, G: Gate + Sync>(
     requires passes { MayWork (plain_script script.now) spines.now.entries passes.old.entries }
     ensures worked { IfOk result (λ worked. HaveWorked (plain_script script.now) passes.old.entries passes.new.entries worked.actors.items worked.mounts.items) }
 {
-    Err(AllocError)
+    let first = openings_of(alloc, script.surfaces.as_slice())?;
+    let mounts = coordinators_of(alloc, &first)?;
+    let plans = script.actors.as_slice();
+    let actors = Vec::with_capacity(alloc, plans.len())?;
+    let mut jobs = jobs_of(alloc, plans, &first, spines, passes)?;
+    run_jobs(rt, alloc, &mut jobs, spines, gate)?;
+    gather(spines, passes, jobs, mounts, actors)
 }
