@@ -13,6 +13,7 @@ use Rattle.tree_revision.specs.Records.{PlainRecord}
 use Rattle.tree_revision.specs.Script.{PlainActor, PlainSurface, PlainScript}
 use Rattle.tree_revision.specs.Sound.{IsSoundScript}
 use Rattle.tree_revision.specs.Lawful.{IsLawful}
+use Rattle.tree_revision.specs.Ports.{BeginsWith}
 use Rattle.mount_coordinator.specs.Mounted.{PlainCoordinator}
 use Rattle.run_report.specs.declared.journal.MountPart.{MountPart}
 use Rattle.run_report.specs.declared.journal.Journal.{Journal}
@@ -84,6 +85,13 @@ named_by_one id entries at n (plan ∷ plans) (actor ∷ actors) c =
           (suc rest.0, rest.1, rest.2, rest.3, omega (arith, rest.4), rest.5, rest.6, rest.7)
     ]
 
+-- a record that legal answers name over a history is named over a longer one
+named_over : (surface : PlainSurface) (records longer : List PlainRecord) → BeginsWith longer records → (number : ℕ) (plan : PlainActor) (actor : RunningActor)
+    → AreLegalAnswers as_written surface.size surface.id records number plan.steps actor.answers → (at : ℕ × PlainRecord) → Contains (records_by surface.id records number plan actor) at
+    → Contains (records_by surface.id longer number plan actor) at
+named_over surface records longer grows number plan actor legal at named =
+    subst (λ l. Contains l at) (sym (records_over_more as_written surface.size surface.id records longer grows number plan.steps actor.answers legal)) named
+
 -- an actor's part of the journal
 abbrev part_of : RunningActor → PlainActorPart
 part_of actor = actor_part_of (actor_now actor)
@@ -149,8 +157,7 @@ module _ (script : PlainScript) (surface : PlainSurface) (was is : PassValue) (m
         named =
             subst (λ id. Contains (records_by id part.records by.1 by.2 by.3) (number, entry)) (sym end.id_is)
             (subst (λ entry. Contains (records_by surface.id part.records by.1 by.2 by.3) (number, entry)) same
-            (subst (λ l. Contains l (number, own.0))
-            (sym (records_over_more as_written surface.size surface.id is.kept.seen part.records end.seen by.1 by.2.steps by.3.answers (worked.each by.1 by.2 by.3 planned there).answers)) by.7));
+            (named_over surface is.kept.seen part.records end.seen by.1 by.2 by.3 (worked.each by.1 by.2 by.3 planned there).answers (number, own.0) by.7));
       }
 
   each_legal : (number : ℕ) (plan : PlainActor) (own : PlainActorPart) → slice_get script.actors number ≡ Some plan → slice_get (map part_of actors) number ≡ Some own

@@ -13,10 +13,9 @@ use mount_coordinator::Coordinator;
 use run_actor::{Desk, Gate, run_actor};
 use shadow_node::Made;
 use std::alloc::{AllocError, Global};
-use std::mem;
 use std::sync::Wait;
-use std::thread;
 use std::thread::Threads;
+use std::{mem, thread};
 
 /// A desk of each surface, with these passes and coordinators, in their order. They are added to
 /// `desks`, which is empty and has memory for all.
@@ -130,9 +129,12 @@ fn run_each<R: Threads + Wait + Sync, G: Gate + Sync>(
     ensures count { length jobs.new ≡ length jobs.old }
     ensures each { (i : ℕ) (d : Job) → i < length jobs.old → HasWorkedOff spines.now.entries (slice_index_or jobs.old i d) (slice_index_or jobs.new i d) }
 {
-    thread::for_each_mut(rt, jobs, jobs.len().max(1), &|_, job| {
-        job.work(rt, alloc, spines, gate)
-    });
+    thread::for_each_mut(
+        rt,
+        jobs,
+        jobs.len().max(1),
+        &|_, job| { job.work(rt, alloc, spines, gate) },
+    );
 }
 
 /// Runs each job, on a thread of its own where one can be started. It is refused where want of memory
