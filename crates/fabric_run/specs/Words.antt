@@ -1,15 +1,16 @@
 -- The words that the program takes.
 use Rattle.std.specs.Prelude.{◌≡◌, ◌≤◌, ℕ, List, [], ◌∷◌, codes, decimal, Option, Some, None}
 use Rattle.fabric_run.specs.declared.words.Command.{Command}
-use Rattle.fabric_run.specs.declared.words.Command.TheVariants.{Turns, Make, Sweep}
+use Rattle.fabric_run.specs.declared.words.Command.TheVariants.{Turns, Run, Make, Sweep}
 
 -- a text is a number of at most 1,000,000 in plain decimals
 abbrev pub NamesNumber : List ℕ → ℕ → Type 0
 NamesNumber text number = (text ≡ decimal number) × (number ≤ 1000000)
 
--- the words name a command: `turns` alone, or `make` or `sweep` with a number
+-- the words name a command: `turns` or `run` alone, or `make` or `sweep` with a number
 abbrev pub Names : List (List ℕ) → Command → Type 0
 Names words Turns = words ≡ codes "turns" ∷ []
+Names words Run = words ≡ codes "run" ∷ []
 Names words (Make number) = (words ≡ codes "make" ∷ decimal number ∷ []) × (number ≤ 1000000)
 Names words (Sweep number) = (words ≡ codes "sweep" ∷ decimal number ∷ []) × (number ≤ 1000000)
 

@@ -3,10 +3,12 @@
 
 mod making;
 mod reading;
+mod reporting;
 mod status;
 #[cfg(test)]
 mod tests;
 mod texts;
+mod threads;
 mod top;
 mod turns;
 mod words;

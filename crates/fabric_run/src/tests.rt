@@ -175,7 +175,7 @@ fn words_that_name_no_command(rt: HostRuntime) {
         &["sweep", "007"],
         &["sweep", "0", "0"],
         &["paint"],
-        &["run"],
+        &["run", "5"],
         &[""],
     ];
     for words in cases {

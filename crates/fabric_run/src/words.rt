@@ -13,6 +13,8 @@ const MOST: u32 = 1_000_000;
 pub enum Command {
     /// A script is run by its list of turns.
     Turns,
+    /// A script is run on threads.
+    Run,
     /// The script of a number is written.
     Make { number: u32 },
     /// The script of a number is run, and what it came to is written.
@@ -44,6 +46,9 @@ fn alone(word: &str) -> Option<Command>
     if word == "turns" {
         return Some(Command::Turns);
     }
+    if word == "run" {
+        return Some(Command::Run);
+    }
     None
 }
 
@@ -61,7 +66,7 @@ fn numbered(word: &str, number: &str) -> Option<Command>
     None
 }
 
-/// The command that the words name: `turns`, or `make` or `sweep` and a number from 0 to 1,000,000 in
+/// The command that the words name: `turns` or `run`, or `make` or `sweep` and a number from 0 to 1,000,000 in
 /// plain decimals. `None` exactly where they name none.
 pub fn command_of(words: &[String]) -> Option<Command>
     ensures { ReadsWords (map string_bytes words.now) result }
