@@ -1,6 +1,7 @@
 //! The program `fabric`: it does what its words ask for, reading from standard input and writing to standard output.
 #![tactic(auto)]
 
+mod laws;
 mod making;
 mod reading;
 mod reporting;

@@ -9,7 +9,7 @@ use crate::status::Status;
 use crate::texts::told;
 use crate::threads::fabric_run;
 use crate::turns::fabric_turns;
-use crate::words::{Command, command_of};
+use crate::words::{Command, command_named};
 use byte_ports::{Sink, Source};
 use run_engine::Gate;
 use shadow_node::Made;
@@ -42,10 +42,10 @@ fn do_command<R: Threads + Wait + Sync, S: Source, K: Sink, E: Sink, G: Gate + S
 
 /// Does all that the program does: it reads the words, does what they ask for, and writes to `out`.
 ///
-/// `Usage` comes exactly where the words name no command; then nothing is read and nothing is written.
+/// `Usage` comes exactly where the words name no command, unless there is no memory to see it; then
+/// nothing is read and nothing is written.
 /// How a command ends is the contract of its own call; of `run` that holds if it returns. Every status but `Done` is told in a line on
 /// `err`; where that fails, the status stays.
-#[tactic(auto, using(crate::proofs::Answering::named_within, crate::proofs::Answering::answers_named, crate::proofs::Answering::answers_none))]
 pub fn fabric_main<R: Threads + Wait + Sync, S: Source, K: Sink, E: Sink, G: Gate + Sync>(
     rt: &R,
     alloc: Global,
@@ -58,8 +58,9 @@ pub fn fabric_main<R: Threads + Wait + Sync, S: Source, K: Sink, E: Sink, G: Gat
     ensures answers { Answers (map string_bytes words.now) (S.source_view source.old) (S.source_view source.new) (K.sink_view out.old) (K.sink_view out.new) result }
     ensures err { Tells (E.sink_view err.old) (E.sink_view err.new) (status_line result) }
 {
-    match command_of(words) {
-        Some(command) => do_command(rt, alloc, command, source, out, err, gate),
-        None => told(err, Status::Usage),
+    match command_named(alloc, words) {
+        Ok(Some(command)) => do_command(rt, alloc, command, source, out, err, gate),
+        Ok(None) => told(err, Status::Usage),
+        Err(_) => told(err, Status::Memory),
     }
 }
