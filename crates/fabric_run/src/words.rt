@@ -9,7 +9,7 @@ use clap::error::ErrorKind;
 use clap::{Arg, ArgMatches, value_parser};
 use std::alloc::{AllocError, Global};
 
-/// The words of which the first is one.
+/// The words of which `command` is one.
 static COMMANDS: [&str; 4] = ["turns", "run", "make", "sweep"];
 
 /// What the words ask for.
@@ -25,7 +25,8 @@ pub enum Command {
     Sweep { number: u32 },
 }
 
-/// The command line of the program, without its name: `command`, and where that has one its `number`.
+/// The command line of the program, for words without its name: a `command`, and maybe a `number` from 0
+/// to 1,000,000.
 fn command_line<'a>(alloc: Global) -> Result<clap::Command<'a>, AllocError>
     ensures { IfOk result IsCommandLine }
 {
@@ -62,7 +63,8 @@ fn command_found(matches: &ArgMatches<'_>) -> Option<Command>
     command_of(word, matches.get_one::<u32>("number"))
 }
 
-/// The command that the words name, as `clap` reads them.
+/// The command that the words name, as `clap` reads them. `None` where it refuses them, and where a number
+/// is missing or too many; `Err` for want of memory.
 pub fn command_named(alloc: Global, words: &[String]) -> Result<Option<Command>, AllocError>
     ensures { IfOk result (λ command. command ≡ command_in (map string_bytes words.now)) }
 {
