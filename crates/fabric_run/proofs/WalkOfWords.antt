@@ -273,9 +273,9 @@ module _ (p q : ValueParser) where
     from_two trailing c n [] = two_given trailing c n
     from_two true c n (w ∷ ws) = stops (after_two true c n) w ws (three_refused c n w)
     from_two false c n (w ∷ ws) = by_cases (option_map rows_for) w _ _ _ _
-      (λ d. goes_on (after_two false c n) (after_two true c n) w ws (dashes_fault w _ _ 3 d) (dashes_walk w _ _ 3 d) ∙ from_two true c n ws)
-      (λ d e. stops (after_two false c n) w ws (flag_fault w _ _ 3 d e))
-      (λ d e. stops (after_two false c n) w ws (ap is_empty (as_value w (command_row c ∷ []) (two_held n) 3 d e) ∙ three_refused c n w))
+        (λ d. goes_on (after_two false c n) (after_two true c n) w ws (dashes_fault w _ _ 3 d) (dashes_walk w _ _ 3 d) ∙ from_two true c n ws)
+        (λ d e. stops (after_two false c n) w ws (flag_fault w _ _ 3 d e))
+        (λ d e. stops (after_two false c n) w ws (ap is_empty (as_value w (command_row c ∷ []) (two_held n) 3 d e) ∙ three_refused c n w))
 
     -- a second word is taken where the first is among the names
     second : (trailing : Bool) (c w : Text) (ws : List Text) → (trailing ≡ false → (is_dashes w ≡ false) × (is_flag w ≡ false))
@@ -296,14 +296,14 @@ module _ (p q : ValueParser) where
     from_one trailing c [] = one_given trailing c
     from_one true c (w ∷ ws) = second true c w ws (λ e. cc)
     from_one false c (w ∷ ws) = by_cases (option_map rows_for) w _ _ _ _
-      (λ d. goes_on (after_one false c) (after_one true c) w ws (dashes_fault w _ _ 2 d) (dashes_walk w _ _ 2 d) ∙ from_one true c ws)
-      (λ d e. stops (after_one false c) w ws (flag_fault w _ _ 2 d e))
-      (λ d e. second false c w ws (λ _. (d, e)))
+        (λ d. goes_on (after_one false c) (after_one true c) w ws (dashes_fault w _ _ 2 d) (dashes_walk w _ _ 2 d) ∙ from_one true c ws)
+        (λ d e. stops (after_one false c) w ws (flag_fault w _ _ 2 d e))
+        (λ d e. second false c w ws (λ _. (d, e)))
 
     pub from_start : (trailing : Bool) (words : List Text) → outcome (before trailing) words ≡ option_map rows_for (reads ok₁ ok₂ trailing words)
     from_start trailing [] = nothing_given trailing
     from_start true (w ∷ ws) = goes_on (before true) (after_one true w) w ws (one_faultless w) (one_taken true w (λ e. cc)) ∙ from_one true w ws
     from_start false (w ∷ ws) = by_cases (option_map rows_for) w _ _ _ _
-      (λ d. goes_on (before false) (before true) w ws (dashes_fault w _ _ 1 d) (dashes_walk w _ _ 1 d) ∙ from_start true ws)
-      (λ d e. stops (before false) w ws (flag_fault w _ _ 1 d e))
-      (λ d e. goes_on (before false) (after_one false w) w ws (as_value w [] None 1 d e ∙ one_faultless w) (one_taken false w (λ _. (d, e))) ∙ from_one false w ws)
+        (λ d. goes_on (before false) (before true) w ws (dashes_fault w _ _ 1 d) (dashes_walk w _ _ 1 d) ∙ from_start true ws)
+        (λ d e. stops (before false) w ws (flag_fault w _ _ 1 d e))
+        (λ d e. goes_on (before false) (after_one false w) w ws (as_value w [] None 1 d e ∙ one_faultless w) (one_taken false w (λ _. (d, e))) ∙ from_one false w ws)

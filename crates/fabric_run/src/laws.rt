@@ -13,5 +13,4 @@ pub fn plain_words_name_their_commands()
     ensures run { command_in (codes "run" ∷ []) ≡ Some Command.Run }
     ensures make { (number : ℕ) → number ≤ 1000000 → command_in (codes "make" ∷ decimal number ∷ []) ≡ Some (Command.Make number) }
     ensures sweep { (number : ℕ) → number ≤ 1000000 → command_in (codes "sweep" ∷ decimal number ∷ []) ≡ Some (Command.Sweep number) }
-{
-}
+{}

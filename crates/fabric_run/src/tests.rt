@@ -168,6 +168,7 @@ const OVERTAKEN_ON_THREADS: &str =
 const MOST_LOOKS: u64 = 1_000_000_000;
 
 /// Lets the actors of `OVERTAKEN_ON_THREADS` act one after another in three stages, and then all at once.
+#[derive(Drop)]
 struct StageGate {
     stage: AtomicU64,
     /// How many passes the second actor made before an event of its commit.
@@ -186,7 +187,9 @@ impl StageGate {
 
     /// Goes on from a stage to the next; later calls change nothing.
     fn leave(&self, stage: u64, next: u64) {
-        let _ = self.stage.compare_exchange(stage, next, Ordering::SeqCst, Ordering::SeqCst);
+        let _ = self
+            .stage
+            .compare_exchange(stage, next, Ordering::SeqCst, Ordering::SeqCst);
     }
 
     /// Holds its caller until a stage is set.
@@ -226,7 +229,10 @@ fn an_overtaken_commit_is_tried_again(rt: HostRuntime) {
     let mut err = sink(&rt, 100, usize::MAX, &[]);
     let source = source(&rt, OVERTAKEN_ON_THREADS.as_bytes(), 997, &[]);
     let gate = StageGate::new();
-    assert_eq!(rt; gated_status(&rt, &["run"], source, &mut out, &mut err, &gate), 0);
+    assert_eq!(rt;
+        gated_status(&rt, &["run"], source, &mut out, &mut err, &gate),
+        0
+    );
     assert!(rt; !gate.gave_up.load(Ordering::SeqCst));
     let report = text_of(&rt, out.bytes());
     for lines in [
