@@ -1,4 +1,4 @@
-use Rattle.std.proofs.Common.{◌∙◌, ap, sym, Some}
+use Rattle.std.proofs.Common.{◌∙◌, sym}
 use Rattle.fabric_run.specs.declared.status.Status.TheVariants.{Usage}
 use Rattle.fabric_run.proofs.NamedCommands.{named_within}
 use Rattle.fabric_run.proofs.Answering.{answers_memory, answers_named, answers_none}
