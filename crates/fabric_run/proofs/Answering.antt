@@ -1,49 +1,69 @@
 -- What the program answers to its words.
-use Rattle.std.proofs.Common.{◌≡◌, ℕ, List, [], ◌∷◌, codes, refl, sym, ap, ◌∙◌, subst, length, arith, inl, inr}
+use Rattle.std.proofs.Common.{◌≡◌, ◌∙◌, ℕ, List, Option, Some, None, refl, sym, ap, subst, inl, inr}
+use Rattle.std.specs.Option.{unwrap_or}
 use Rattle.byte_ports.specs.Sources.{SourceView}
 use Rattle.byte_ports.specs.Sinks.{SinkView}
 use Rattle.fabric_run.specs.declared.status.Status.{Status}
-use Rattle.fabric_run.specs.declared.status.Status.TheVariants.{Usage}
+use Rattle.fabric_run.specs.declared.status.Status.TheVariants.{Usage, Memory}
 use Rattle.fabric_run.specs.declared.words.Command.{Command}
-use Rattle.fabric_run.specs.declared.words.Command.TheVariants.{Turns, Make, Sweep}
-use Rattle.fabric_run.specs.Words.{Names, NamesNone}
-use Rattle.fabric_run.specs.Commands.{TurnsEnd, CommandEnds, IsWithin, Answers}
-
--- a command that words name has a number within the range
-pub named_within : (words : List (List ℕ)) (command : Command) → Names words command → IsWithin command
-named_within words Turns names = tt
-named_within words (Make number) names = names.1
-named_within words (Sweep number) names = names.1
-
--- two words are not one
-not_one : (words : List (List ℕ)) (first second one : List ℕ) → words ≡ first ∷ second ∷ [] → words ≡ one ∷ [] → ⊥
-not_one words first second one two e = let bad : 2 ≡ 1 = sym (ap length two) ∙ ap length e in absurd (omega (arith, bad))
+use Rattle.fabric_run.specs.declared.words.Command.TheVariants.{Turns, Run, Make, Sweep}
+use Rattle.fabric_run.specs.Words.{command_in}
+use Rattle.fabric_run.specs.Commands.{CommandEnds, IsUsageOrMemory, Answers}
+use Rattle.fabric_run.proofs.NamedCommands.{turns_named, run_named, make_named, sweep_named}
 
 module _ (words : List (List ℕ)) (old new : SourceView) (out_old out_new : SinkView) where
   -- no command ends in `Usage`
   never_usage : (command : Command) → CommandEnds command old new out_old out_new Usage → ⊥
   never_usage Turns ends = ends.leaves
+  never_usage Run ends = ends.leaves
   never_usage (Make number) ends = ends.0.leaves
   never_usage (Sweep number) ends = ends.0.leaves
 
-  -- the command that `turns` alone names
-  turns_alone : (command : Command) (status : Status) → Names words command → CommandEnds command old new out_old out_new status → words ≡ codes "turns" ∷ [] → TurnsEnd old new out_old out_new status
-  turns_alone Turns status names ends e = ends
-  turns_alone (Make number) status names ends e = absurd (not_one words _ _ _ names.0 e)
-  turns_alone (Sweep number) status names ends e = absurd (not_one words _ _ _ names.0 e)
-
   -- where the words name a command, it is what the program does
-  pub answers_named : (command : Command) (status : Status) → Names words command → CommandEnds command old new out_old out_new status → Answers words old new out_old out_new status
+  pub answers_named : (command : Command) (status : Status) → command_in words ≡ Some command → CommandEnds command old new out_old out_new status → Answers words old new out_old out_new status
   answers_named command status names ends = record {
     answers = inl (record { command = command; names = names; ends = ends });
-    usage = (λ e. absurd (never_usage command (subst (CommandEnds command old new out_old out_new) e ends)), λ none. absurd (none command names));
-    turns = turns_alone command status names ends;
+    usage = λ e. absurd (never_usage command (subst (CommandEnds command old new out_old out_new) e ends));
+    none = λ none. absurd (some_none (sym names ∙ none));
+    turns = λ e. other Turns (ap command_in e ∙ turns_named);
+    run = λ e. other Run (ap command_in e ∙ run_named);
+    make = λ number small e. other (Make number) (ap command_in e ∙ make_named number small);
+    sweep = λ number small e. other (Sweep number) (ap command_in e ∙ sweep_named number small);
   }
+    where
+      some_none : Some command ≡ None → ⊥
+      some_none e = cc
 
--- where they name none, it is told
-pub answers_none : (words : List (List ℕ)) (source : SourceView) (out : SinkView) → NamesNone words → Answers words source source out out Usage
-answers_none words source out none = record {
-  answers = inr (record { names = none; usage = refl; source = refl; out = refl });
-  usage = (λ e. none, λ n. refl);
-  turns = λ e. absurd (none Turns e);
-}
+      other : (named : Command) → command_in words ≡ Some named → CommandEnds named old new out_old out_new status
+      other named e = subst (λ (c : Command). CommandEnds c old new out_old out_new status) (ap (λ (o : Option Command). unwrap_or o command) (sym names ∙ e)) ends
+
+module _ (words : List (List ℕ)) (source : SourceView) (out : SinkView) where
+  -- where they name none, it is told, or there was no memory to see it
+  pub answers_none : (status : Status) → command_in words ≡ None → IsUsageOrMemory status → Answers words source source out out status
+  answers_none status names told = record {
+    answers = inr (record { names = names; told = told; source = refl; out = refl });
+    usage = λ e. names;
+    none = λ e. told;
+    turns = λ e. absurd (none_some Turns (ap command_in e ∙ turns_named));
+    run = λ e. absurd (none_some Run (ap command_in e ∙ run_named));
+    make = λ number small e. absurd (none_some (Make number) (ap command_in e ∙ make_named number small));
+    sweep = λ number small e. absurd (none_some (Sweep number) (ap command_in e ∙ sweep_named number small));
+  }
+    where
+      none_some : (command : Command) → command_in words ≡ Some command → ⊥
+      none_some command e = let bad : None ≡ Some command = sym names ∙ e in cc
+
+  -- without memory any command may end before it begins
+  ends_at_once : (command : Command) → CommandEnds command source source out out Memory
+  ends_at_once Turns = record { leaves = refl; complete = λ bytes script told reads a b. tt; refused = λ bytes fault told reads a. tt }
+  ends_at_once Run = record { leaves = refl; complete = λ bytes script told reads a b. tt; refused = λ bytes fault told reads a. tt }
+  ends_at_once (Make number) = (record { leaves = refl; complete = λ a. tt }, refl)
+  ends_at_once (Sweep number) = (record { leaves = refl; complete = λ a. tt }, refl)
+
+  -- where there is no memory to read the words, that is told
+  pub answers_memory : Answers words source source out out Memory
+  answers_memory = go (command_in words) refl
+    where
+      go : (named : Option Command) → command_in words ≡ named → Answers words source source out out Memory
+      go None e = answers_none Memory e tt
+      go (Some command) e = answers_named words source source out out command Memory e (ends_at_once command)

@@ -1,6 +1,7 @@
 pub mod Outcome
-pub mod WordLists
 pub mod Told
 pub mod Counts
+pub mod WalkOfWords
+pub mod Numerals
+pub mod NamedCommands
 pub mod Answering
-pub mod Parsed

@@ -1,5 +1,5 @@
 -- What each command reads and writes.
-use Rattle.std.specs.Prelude.{◌≡◌, ◌⊎◌, ◌↔◌, ◌≤◌, ℕ, List, [], ◌∷◌, ◌++◌, codes}
+use Rattle.std.specs.Prelude.{◌≡◌, ◌⊎◌, ◌≤◌, ℕ, List, [], ◌∷◌, ◌++◌, codes, decimal, Some, None}
 use Rattle.byte_ports.specs.Sources.{SourceView}
 use Rattle.byte_ports.specs.Sinks.{SinkView}
 use Rattle.serde_json.specs.Written.{compact_text}
@@ -7,15 +7,16 @@ use Rattle.tree_revision.specs.Script.{PlainScript}
 use Rattle.script_read.specs.Reads.{script_in}
 use Rattle.script_read.specs.Writing.{json_of}
 use Rattle.script_read.specs.Making.{made_script}
+use Rattle.run_report.specs.Journal.{PlainJournal}
 use Rattle.run_report.specs.Machine.{journal_of_turns}
 use Rattle.run_report.specs.Legal.{IsLegal}
 use Rattle.run_report.specs.Text.{report_text}
 use Rattle.run_report.specs.Summary.{summary_text}
 use Rattle.fabric_run.specs.declared.status.Status.{Status}
 use Rattle.fabric_run.specs.declared.words.Command.{Command}
-use Rattle.fabric_run.specs.declared.words.Command.TheVariants.{Turns, Make, Sweep}
-use Rattle.fabric_run.specs.declared.status.Status.TheVariants.{Usage}
-use Rattle.fabric_run.specs.Words.{Names, NamesNone}
+use Rattle.fabric_run.specs.declared.words.Command.TheVariants.{Turns, Run, Make, Sweep}
+use Rattle.fabric_run.specs.declared.status.Status.TheVariants.{Done, Refused, Usage, ReadFault, WriteFault, Memory}
+use Rattle.fabric_run.specs.Words.{command_in}
 use Rattle.fabric_run.specs.Outcome.{Reading, Ends, EndsAlone}
 
 -- a script has at most 4,194,304 bytes
@@ -30,6 +31,16 @@ pub record IsReportOfTurns (script : PlainScript) (text : List ℕ) : Type 0 whe
 -- how the command `turns` ends
 abbrev pub TurnsEnd : (old new : SourceView) → (out_old out_new : SinkView) → Status → Type 0
 TurnsEnd = Ends script_reading IsReportOfTurns
+
+-- a text is the report of a journal that is legal for the script
+pub record IsReportOfRun (script : PlainScript) (text : List ℕ) : Type 0 where
+  pub journal : PlainJournal
+  pub legal : IsLegal script journal
+  pub tells : text ≡ report_text journal
+
+-- how the command `run` ends
+abbrev pub RunEnds : (old new : SourceView) → (out_old out_new : SinkView) → Status → Type 0
+RunEnds = Ends script_reading IsReportOfRun
 
 -- a text is that of the script of a number, to the end of a line
 abbrev pub IsMade : ℕ → List ℕ → Type 0
@@ -51,25 +62,36 @@ SweepEnds number = EndsAlone (IsSweep number)
 -- how a command ends; `make` and `sweep` read nothing
 abbrev pub CommandEnds : Command → (old new : SourceView) → (out_old out_new : SinkView) → Status → Type 0
 CommandEnds Turns old new out_old out_new status = TurnsEnd old new out_old out_new status
+CommandEnds Run old new out_old out_new status = RunEnds old new out_old out_new status
 CommandEnds (Make number) old new out_old out_new status = MakeEnds number out_old out_new status × (new ≡ old)
 CommandEnds (Sweep number) old new out_old out_new status = SweepEnds number out_old out_new status × (new ≡ old)
 
 -- the number of a command is at most 1,000,000
 abbrev pub IsWithin : Command → Type 0
 IsWithin Turns = Unit {0}
+IsWithin Run = Unit {0}
 IsWithin (Make number) = number ≤ 1000000
 IsWithin (Sweep number) = number ≤ 1000000
 
 -- the words name a command, and it ended
 pub record RunsCommand (words : List (List ℕ)) (old new : SourceView) (out_old out_new : SinkView) (status : Status) : Type 0 where
   pub command : Command
-  pub names : Names words command
+  pub names : command_in words ≡ Some command
   pub ends : CommandEnds command old new out_old out_new status
 
--- the words name no command: that is answered, nothing is read, and nothing is written
+-- that the words name no command was answered, or there was no memory to see it
+abbrev pub IsUsageOrMemory : Status → Type 0
+IsUsageOrMemory Done = ⊥
+IsUsageOrMemory (Refused fault) = ⊥
+IsUsageOrMemory Usage = Unit {0}
+IsUsageOrMemory ReadFault = ⊥
+IsUsageOrMemory WriteFault = ⊥
+IsUsageOrMemory Memory = Unit {0}
+
+-- the words name no command: nothing is read, and nothing is written
 pub record RunsNone (words : List (List ℕ)) (old new : SourceView) (out_old out_new : SinkView) (status : Status) : Type 0 where
-  pub names : NamesNone words
-  pub usage : status ≡ Usage
+  pub names : command_in words ≡ None
+  pub told : IsUsageOrMemory status
   pub source : new ≡ old
   pub out : out_new ≡ out_old
 
@@ -77,8 +99,12 @@ pub record RunsNone (words : List (List ℕ)) (old new : SourceView) (out_old ou
 abbrev pub AnswersWords : List (List ℕ) → (old new : SourceView) → (out_old out_new : SinkView) → Status → Type 0
 AnswersWords words old new out_old out_new status = RunsCommand words old new out_old out_new status ⊎ RunsNone words old new out_old out_new status
 
--- what follows for the status and for the word `turns` alone: `Usage` comes exactly where the words name no command
+-- what follows for the status, and for words in their plain form: `Usage` comes only where the words name no command, and then nothing else comes but for want of memory
 pub record Answers (words : List (List ℕ)) (old new : SourceView) (out_old out_new : SinkView) (status : Status) : Type 0 where
   pub answers : AnswersWords words old new out_old out_new status
-  pub usage : (status ≡ Usage) ↔ NamesNone words
+  pub usage : status ≡ Usage → command_in words ≡ None
+  pub none : command_in words ≡ None → IsUsageOrMemory status
   pub turns : words ≡ codes "turns" ∷ [] → TurnsEnd old new out_old out_new status
+  pub run : words ≡ codes "run" ∷ [] → RunEnds old new out_old out_new status
+  pub make : (number : ℕ) → number ≤ 1000000 → words ≡ codes "make" ∷ decimal number ∷ [] → MakeEnds number out_old out_new status × (new ≡ old)
+  pub sweep : (number : ℕ) → number ≤ 1000000 → words ≡ codes "sweep" ∷ decimal number ∷ [] → SweepEnds number out_old out_new status × (new ≡ old)

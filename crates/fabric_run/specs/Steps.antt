@@ -1,5 +1,10 @@
 -- What the parts of a command do; each is a part of a definition of `Outcome`, and nothing is promised by them.
-use Rattle.std.specs.Prelude.{◌≡◌, List, ℕ, Result, Ok, Err}
+use Rattle.std.specs.Prelude.{◌≡◌, ◌≤◌, List, ℕ, Result, Ok, Err, map, codes, IfSome}
+use Rattle.std.specs.Borrow.{Bor}
+use Rattle.std.specs.Str.Parse.{IsNumeral, without_leading_plus}
+use Rattle.clap.specs.Simple.{app_of}
+use Rattle.clap.specs.Walk.{Row, Text, one_of}
+use Rattle.clap.specs.declared.builder.command.Command.{Command as CommandLine}
 use Rattle.counts.specs.Raised.{HasRisen}
 use Rattle.byte_ports.specs.Sources.{SourceView}
 use Rattle.byte_ports.specs.Sinks.{SinkView}
@@ -9,6 +14,7 @@ use Rattle.fabric_run.specs.declared.status.Status.{Status}
 use Rattle.fabric_run.specs.declared.status.Status.TheVariants.{Done, Refused, Usage, ReadFault, WriteFault, Memory}
 use Rattle.fabric_run.specs.Outcome.{Appends, AppendsPart, ReadsAs, HasFault}
 use Rattle.fabric_run.specs.Commands.{script_reading}
+use Rattle.fabric_run.specs.Words.{app_with, command_words, number_in}
 
 -- what reading a script leaves on the source: the script that its bytes are, or the status that the program ends with
 abbrev pub ReadsScript : (old new : SourceView) → Result Script Status → Type 0
@@ -28,3 +34,18 @@ WritesText text old new Usage = ⊥
 WritesText text old new ReadFault = ⊥
 WritesText text old new WriteFault = AppendsPart old new text
 WritesText text old new Memory = new ≡ old
+
+-- a command line that was built is the program's, wherever the words of its commands lie
+pub record IsCommandLine (line : CommandLine) : Type 0 where
+  pub names : Bor (List (Bor Text))
+  pub are : map (λ name. name.now) names.now ≡ command_words
+  pub app : app_of line ≡ app_with names
+
+-- a text is a number of at most 1,000,000
+pub record IsReadable (text : Text) : Type 0 where
+  pub numeral : IsNumeral 10 (without_leading_plus text)
+  pub small : number_in text ≤ 1000000
+
+-- so is the text that was found for `number`, where there is one
+abbrev pub HasReadableNumber : List Row → Type 0
+HasReadableNumber rows = IfSome (one_of (codes "number") rows) IsReadable

@@ -1,12 +1,15 @@
 //! The program `fabric`: it does what its words ask for, reading from standard input and writing to standard output.
 #![tactic(auto)]
 
+mod laws;
 mod making;
 mod reading;
+mod reporting;
 mod status;
 #[cfg(test)]
 mod tests;
 mod texts;
+mod threads;
 mod top;
 mod turns;
 mod words;

@@ -5,9 +5,10 @@ ghost use Rattle.std.specs.Prelude.{◌≤◌};
 use crate::status::exit_status;
 use crate::top::fabric_main;
 use byte_ports::{MemorySink, MemorySource};
-use run_engine::FreeGate;
+use run_engine::{FreeGate, Gate};
 use std::process::Abort;
 use std::sync::Wait;
+use std::sync::atomic::{AtomicBool, AtomicU64, Ordering};
 use std::thread::Threads;
 
 /// An empty tree, and two mounts.
@@ -88,21 +89,33 @@ fn sink<R: AllocGlobal + Abort>(rt: &R, room: usize, most: usize, fails: &[u64])
     sink.pieces(most)
 }
 
-/// Runs the program on these words and ports, and answers its exit status.
-fn status_of<R: Threads + Wait + Sync + AllocGlobal + Abort>(
+/// Runs the program on these words, ports and gate, and answers its exit status.
+fn gated_status<R: Threads + Wait + Sync + AllocGlobal + Abort, G: Gate + Sync>(
     rt: &R,
     texts: &[&str],
     mut source: MemorySource,
     out: &mut MemorySink,
     err: &mut MemorySink,
+    gate: &G,
 ) -> u8 {
     let mut words = Vec::new(rt.alloc());
     for text in texts {
         let word = String::from_str(rt.alloc(), text).expect(rt, "memory for a word");
         words.push(word).expect(rt, "memory for the words");
     }
-    let status = fabric_main(rt, rt.alloc(), &words, &mut source, out, err, &FreeGate);
+    let status = fabric_main(rt, rt.alloc(), &words, &mut source, out, err, gate);
     exit_status(&status)
+}
+
+/// Runs the program on these words and ports, and answers its exit status.
+fn status_of<R: Threads + Wait + Sync + AllocGlobal + Abort>(
+    rt: &R,
+    texts: &[&str],
+    source: MemorySource,
+    out: &mut MemorySink,
+    err: &mut MemorySink,
+) -> u8 {
+    gated_status(rt, texts, source, out, err, &FreeGate)
 }
 
 /// Runs the program where no call fails, holds it to that status and that text on the error stream, and
@@ -143,6 +156,106 @@ fn small_scripts_print_their_reports(rt: HostRuntime) {
     }
 }
 
+/// Four commits of one actor while another mounts: a tree, a suspend, a change, and a resume.
+const MOUNTED_BY_ANOTHER: &str =
+    "{\"version\":2,\"surfaces\":[{\"id\":1,\"width\":100,\"height\":100}],\"actors\":[{\"name\":\"js\",\"steps\":[{\"do\":\"complete\",\"on\":1,\"tree\":[{\"tag\":2,\"kind\":\"text\",\"props\":{\"width\":10}}]},{\"do\":\"suspend\",\"on\":1},{\"do\":\"props\",\"on\":1,\"tag\":2,\"props\":{\"width\":20}},{\"do\":\"resume\",\"on\":1}]},{\"name\":\"ui\",\"steps\":[{\"do\":\"mount\",\"on\":1},{\"do\":\"mount\",\"on\":1},{\"do\":\"mount\",\"on\":1}]}],\"turns\":[]}";
+
+/// Three actors, of which the second mounts and is overtaken by the third.
+const OVERTAKEN_ON_THREADS: &str =
+    "{\"version\":1,\"surfaces\":[{\"id\":1,\"width\":100,\"height\":100}],\"actors\":[{\"name\":\"js\",\"steps\":[{\"do\":\"complete\",\"on\":1,\"tree\":[{\"tag\":7,\"kind\":\"scroll\",\"props\":{\"width\":100,\"height\":100}}]},{\"do\":\"hold\",\"on\":1}]},{\"name\":\"ui\",\"steps\":[{\"do\":\"hold\",\"on\":1},{\"do\":\"mount\",\"on\":1},{\"do\":\"props\",\"on\":1,\"tag\":7,\"props\":{\"border\":1}}]},{\"name\":\"scr\",\"steps\":[{\"do\":\"state\",\"on\":1,\"tag\":7,\"set\":[0,40]},{\"do\":\"hold\",\"on\":1}]}],\"turns\":[]}";
+
+/// How often a pass that is held looks before it gives up.
+const MOST_LOOKS: u64 = 1_000_000_000;
+
+/// Lets the actors of `OVERTAKEN_ON_THREADS` act one after another in three stages, and then all at once.
+#[derive(Drop)]
+struct StageGate {
+    stage: AtomicU64,
+    /// How many passes the second actor made before an event of its commit.
+    commits: AtomicU64,
+    gave_up: AtomicBool,
+}
+
+impl StageGate {
+    fn new() -> StageGate {
+        StageGate {
+            stage: AtomicU64::new(0),
+            commits: AtomicU64::new(0),
+            gave_up: AtomicBool::new(false),
+        }
+    }
+
+    /// Goes on from a stage to the next; later calls change nothing.
+    fn leave(&self, stage: u64, next: u64) {
+        let _ = self
+            .stage
+            .compare_exchange(stage, next, Ordering::SeqCst, Ordering::SeqCst);
+    }
+
+    /// Holds its caller until a stage is set.
+    fn hold_until(&self, stage: u64) {
+        for _ in 0..MOST_LOOKS {
+            if self.stage.load(Ordering::SeqCst) >= stage {
+                return;
+            }
+        }
+        self.gave_up.store(true, Ordering::SeqCst);
+    }
+}
+
+impl Gate for StageGate {
+    fn pass(&self, actor: usize, call: usize) {
+        match (actor, call) {
+            (0, 1) => {
+                self.leave(0, 1);
+                self.hold_until(3);
+            }
+            (1, 0) => self.hold_until(1),
+            // Its first pass is before the look, and its second before the offer.
+            (1, 2) if self.commits.fetch_add(1, Ordering::SeqCst) == 1 => {
+                self.leave(1, 2);
+                self.hold_until(3);
+            }
+            (2, 0) => self.hold_until(2),
+            (2, 1) => self.leave(2, 3),
+            _ => {}
+        }
+    }
+}
+
+#[test]
+fn an_overtaken_commit_is_tried_again(rt: HostRuntime) {
+    let mut out = sink(&rt, 10_000, usize::MAX, &[]);
+    let mut err = sink(&rt, 100, usize::MAX, &[]);
+    let source = source(&rt, OVERTAKEN_ON_THREADS.as_bytes(), 997, &[]);
+    let gate = StageGate::new();
+    assert_eq!(rt;
+        gated_status(&rt, &["run"], source, &mut out, &mut err, &gate),
+        0
+    );
+    assert!(rt; !gate.gave_up.load(Ordering::SeqCst));
+    let report = text_of(&rt, out.bytes());
+    for lines in [
+        "actor js\nstep 0 on 1 admitted 1 tries 1\n",
+        "actor ui\nstep 0 on 1 held 1\nstep 1 on 1 mounted 0 1\nstep 2 on 1 admitted 3 tries 2\n",
+        "actor scr\nstep 0 on 1 admitted 2 tries 1\n",
+    ] {
+        assert!(rt; report.find(lines).is_some(), "{report}");
+    }
+}
+
+#[test]
+fn mounts_on_another_thread_see_the_last_commit(rt: HostRuntime) {
+    let out = written(&rt, &["run"], MOUNTED_BY_ANOTHER.as_bytes(), 997, 0, "");
+    let report = text_of(&rt, out.bytes());
+    for lines in [
+        "actor js\nstep 0 on 1 admitted 1 tries 1\nstep 1 on 1 admitted 2 tries 1\nstep 2 on 1 admitted 3 tries 1\nstep 3 on 1 admitted 4 tries 1\n",
+        "views 1\nview 2 in 0 at 0 text frame 0 0 20 0 width=20\nend\n",
+    ] {
+        assert!(rt; report.find(lines).is_some(), "{report}");
+    }
+}
+
 #[test]
 fn what_is_refused_is_told(rt: HostRuntime) {
     for (script, line) in [
@@ -166,16 +279,17 @@ fn what_is_refused_is_told(rt: HostRuntime) {
 
 #[test]
 fn words_that_name_no_command(rt: HostRuntime) {
-    let cases: [&[&str]; 10] = [
+    let cases: [&[&str]; 11] = [
         &[],
         &["turns", "5"],
+        &["run", "5"],
         &["make"],
         &["make", "1000001"],
-        &["make", "+1"],
-        &["sweep", "007"],
+        &["make", "-1"],
         &["sweep", "0", "0"],
+        &["sweep", "ten"],
         &["paint"],
-        &["run"],
+        &["--help"],
         &[""],
     ];
     for words in cases {

@@ -7,8 +7,9 @@ ghost use Rattle.fabric_run.specs.Texts.{Tells, status_line};
 use crate::making::{fabric_make, fabric_sweep};
 use crate::status::Status;
 use crate::texts::told;
+use crate::threads::fabric_run;
 use crate::turns::fabric_turns;
-use crate::words::{Command, command_of};
+use crate::words::{Command, command_named};
 use byte_ports::{Sink, Source};
 use run_engine::Gate;
 use shadow_node::Made;
@@ -17,13 +18,14 @@ use std::sync::Wait;
 use std::thread::Threads;
 
 /// Does what a command asks for.
-fn do_command<R: Threads + Wait + Sync, S: Source, K: Sink, E: Sink>(
+fn do_command<R: Threads + Wait + Sync, S: Source, K: Sink, E: Sink, G: Gate + Sync>(
     rt: &R,
     alloc: Global,
     command: Command,
     source: &mut S,
     out: &mut K,
     err: &mut E,
+    gate: &G,
 ) -> Status
     requires { IsWithin command }
     ensures ends { CommandEnds command (S.source_view source.old) (S.source_view source.new) (K.sink_view out.old) (K.sink_view out.new) result }
@@ -32,6 +34,7 @@ fn do_command<R: Threads + Wait + Sync, S: Source, K: Sink, E: Sink>(
     let mut made = Made::start(rt);
     match command {
         Command::Turns => fabric_turns(alloc, &mut made, source, out, err),
+        Command::Run => fabric_run(rt, alloc, source, out, err, gate),
         Command::Make { number } => fabric_make(alloc, number, out, err),
         Command::Sweep { number } => fabric_sweep(alloc, &mut made, number, out, err),
     }
@@ -39,10 +42,10 @@ fn do_command<R: Threads + Wait + Sync, S: Source, K: Sink, E: Sink>(
 
 /// Does all that the program does: it reads the words, does what they ask for, and writes to `out`.
 ///
-/// `Usage` comes exactly where the words name no command; then nothing is read and nothing is written.
-/// How a command ends is the contract of its own call. Every status but `Done` is told in a line on
+/// `Usage` comes exactly where the words name no command, unless there is no memory to see it; then
+/// nothing is read and nothing is written.
+/// How a command ends is the contract of its own call; of `run` that holds if it returns. Every status but `Done` is told in a line on
 /// `err`; where that fails, the status stays.
-#[tactic(auto, using(crate::proofs::Answering::named_within, crate::proofs::Answering::answers_named, crate::proofs::Answering::answers_none))]
 pub fn fabric_main<R: Threads + Wait + Sync, S: Source, K: Sink, E: Sink, G: Gate + Sync>(
     rt: &R,
     alloc: Global,
@@ -55,9 +58,9 @@ pub fn fabric_main<R: Threads + Wait + Sync, S: Source, K: Sink, E: Sink, G: Gat
     ensures answers { Answers (map string_bytes words.now) (S.source_view source.old) (S.source_view source.new) (K.sink_view out.old) (K.sink_view out.new) result }
     ensures err { Tells (E.sink_view err.old) (E.sink_view err.new) (status_line result) }
 {
-    let _ = gate;
-    match command_of(words) {
-        Some(command) => do_command(rt, alloc, command, source, out, err),
-        None => told(err, Status::Usage),
+    match command_named(alloc, words) {
+        Ok(Some(command)) => do_command(rt, alloc, command, source, out, err, gate),
+        Ok(None) => told(err, Status::Usage),
+        Err(_) => told(err, Status::Memory),
     }
 }

@@ -1,37 +1,18 @@
 //! The command `turns`: a script is read, run by its list of turns, and reported.
 
-ghost use Rattle.run_report.specs.Journal.{plain_journal};
-ghost use Rattle.run_report.specs.Named.{NamesItsActors};
-ghost use Rattle.run_report.specs.Text.{report_text};
 ghost use Rattle.fabric_run.specs.Commands.{TurnsEnd};
 ghost use Rattle.fabric_run.specs.Texts.{Tells, status_line};
 
 use crate::reading::script_from;
+use crate::reporting::Report;
 use crate::status::Status;
 use crate::texts::told;
-use crate::writing::{Text, write_text};
-use byte_ports::{Failed, Sink, Source};
+use crate::writing::write_text;
+use byte_ports::{Sink, Source};
 use run_engine::run_turns;
 use run_report::laws::journals_of_turns_are_legal;
-use run_report::{Journal, write_report};
 use shadow_node::Made;
 use std::alloc::Global;
-
-/// The report of a journal.
-#[derive(Drop)]
-struct Report {
-    journal: Journal,
-}
-
-impl Text for Report {
-    ghost text = { λ report. report_text (plain_journal report.journal) };
-
-    ghost is_ready = { λ report. NamesItsActors (plain_journal report.journal) };
-
-    fn write<K: Sink>(&self, out: &mut K) -> Result<(), Failed> {
-        write_report(&self.journal, out)
-    }
-}
 
 /// Reads a script from the source, runs it, and writes the report to `out`.
 fn answer_turns<S: Source, K: Sink>(

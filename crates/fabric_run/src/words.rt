@@ -1,74 +1,76 @@
-//! The words of the command line.
+//! The words of the command line, as `clap` reads them.
 
-ghost use Rattle.std.specs.Prelude.{◌≡◌, ◌≤◌, ◌↔◌, IsTrue, [], ◌∷◌, map, string_bytes};
-ghost use Rattle.fabric_run.specs.Words.{NamesNumber, ReadsNumber, ReadsWords};
+ghost use Rattle.std.specs.Prelude.{◌≡◌, IfOk, map, string_bytes};
+ghost use Rattle.clap.specs.Words.{found_of, rows_of};
+ghost use Rattle.fabric_run.specs.Steps.{HasReadableNumber, IsCommandLine};
+ghost use Rattle.fabric_run.specs.Words.{command_found, command_in, command_of};
 
-use itoa::Buffer;
+use clap::error::ErrorKind;
+use clap::{Arg, ArgMatches, value_parser};
+use std::alloc::{AllocError, Global};
 
-/// The greatest number that a command takes.
-const MOST: u32 = 1_000_000;
+/// The words of which `command` is one.
+static COMMANDS: [&str; 4] = ["turns", "run", "make", "sweep"];
 
 /// What the words ask for.
 #[derive(Clone, Copy)]
 pub enum Command {
     /// A script is run by its list of turns.
     Turns,
+    /// A script is run on threads.
+    Run,
     /// The script of a number is written.
     Make { number: u32 },
     /// The script of a number is run, and what it came to is written.
     Sweep { number: u32 },
 }
 
-/// Whether a word is that number in plain decimals, and the number is at most 1,000,000.
-fn is_number(word: &str, number: u32) -> bool
-    ensures { IsTrue result ↔ NamesNumber word.now number }
+/// The command line of the program, for words without its name: a `command`, and maybe a `number` from 0
+/// to 1,000,000.
+fn command_line<'a>(alloc: Global) -> Result<clap::Command<'a>, AllocError>
+    ensures { IfOk result IsCommandLine }
 {
-    number <= MOST && Buffer::new().format(number) == word
+    let command = Arg::new(alloc, "command")
+        .value_parser(COMMANDS.as_slice())
+        .required(true);
+    let number = Arg::new(alloc, "number").value_parser(value_parser!(u32).range(..=1_000_000));
+    clap::Command::new(alloc, "fabric")
+        .no_binary_name(true)
+        .disable_help_flag(true)
+        .arg(command)?
+        .arg(number)
 }
 
-/// The number of at most 1,000,000 that a word is in plain decimals.
-#[tactic(auto, using(crate::proofs::Parsed::not_parsed, crate::proofs::Parsed::other_parsed))]
-fn number_of(word: &str) -> Option<u32>
-    ensures { ReadsNumber word.now result }
+/// The command of a word and a number: `make` and `sweep` have one, and `turns` and `run` have none.
+fn command_of(word: &str, number: Option<u32>) -> Option<Command>
+    ensures { result ≡ command_of word.now number }
 {
-    match word.parse::<u32>() {
-        Ok(number) if is_number(word, number) => Some(number),
+    match (word, number) {
+        ("turns", None) => Some(Command::Turns),
+        ("run", None) => Some(Command::Run),
+        ("make", Some(number)) => Some(Command::Make { number }),
+        ("sweep", Some(number)) => Some(Command::Sweep { number }),
         _ => None,
     }
 }
 
-/// The command that one word names.
-fn alone(word: &str) -> Option<Command>
-    ensures { ReadsWords (word.now ∷ []) result }
+/// The command that was found for the two arguments.
+fn command_found(matches: &ArgMatches<'_>) -> Option<Command>
+    requires { HasReadableNumber (rows_of (found_of matches.now)) }
+    ensures { result ≡ command_found (rows_of (found_of matches.now)) }
 {
-    if word == "turns" {
-        return Some(Command::Turns);
-    }
-    None
+    let word = matches.get_str("command")?;
+    command_of(word, matches.get_one::<u32>("number"))
 }
 
-/// The command that a word and a number name.
-fn numbered(word: &str, number: &str) -> Option<Command>
-    ensures { ReadsWords (word.now ∷ number.now ∷ []) result }
+/// The command that the words name, as `clap` reads them. `None` where it refuses them, and where a number
+/// is missing or too many; `Err` for want of memory.
+pub fn command_named(alloc: Global, words: &[String]) -> Result<Option<Command>, AllocError>
+    ensures { IfOk result (λ command. command ≡ command_in (map string_bytes words.now)) }
 {
-    let number = number_of(number)?;
-    if word == "make" {
-        return Some(Command::Make { number });
-    }
-    if word == "sweep" {
-        return Some(Command::Sweep { number });
-    }
-    None
-}
-
-/// The command that the words name: `turns`, or `make` or `sweep` and a number from 0 to 1,000,000 in
-/// plain decimals. `None` exactly where they name none.
-pub fn command_of(words: &[String]) -> Option<Command>
-    ensures { ReadsWords (map string_bytes words.now) result }
-{
-    match words {
-        [word] => alone(word.as_str()),
-        [word, number] => numbered(word.as_str(), number.as_str()),
-        _ => None,
+    match command_line(alloc)?.try_get_matches_from(words) {
+        Ok(matches) => Ok(command_found(&matches)),
+        Err(error) if error.kind() == ErrorKind::OutOfMemory => Err(AllocError),
+        Err(_) => Ok(None),
     }
 }
