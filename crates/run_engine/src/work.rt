@@ -7,7 +7,8 @@ ghost use Rattle.run_engine.specs.Jobs.{AreDesksOf, AreOfSpines, AreRun, HasRunJ
 
 use crate::jobs::Job;
 use crate::opening::add_new;
-use commit_spine::{Spine, SpinePass, SpinePort};
+use crate::sending::{jobs_are_sent, needs_sync};
+use commit_spine::{Spine, SpinePass, SpinePort, spines_are_shared};
 use indexmap::IndexMap;
 use mount_coordinator::Coordinator;
 use run_actor::{Desk, Gate, run_actor};
@@ -130,6 +131,9 @@ fn run_each<R: Threads + Wait + Sync, G: Gate + Sync>(
     ensures count { length jobs.new ≡ length jobs.old }
     ensures each { (i : ℕ) (d : Job) → i < length jobs.old → HasWorkedOff spines.now.entries (slice_index_or jobs.old i d) (slice_index_or jobs.new i d) }
 {
+    jobs_are_sent();
+    spines_are_shared();
+    needs_sync::<IndexMap<u32, Spine>>(None);
     thread::for_each_mut(rt, jobs, jobs.len().max(1), &|_, job| {
         job.work(rt, alloc, spines, gate)
     });
