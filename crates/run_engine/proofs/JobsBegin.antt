@@ -102,7 +102,7 @@ module _ (surface : PlainSurface) (number : ℕ) (plan : PlainActor) (first : Li
   leaves_base ended after None is passages ran are size none leaves =
       let off : mounts_on surface.id plan ≡ false = subst (λ n. mounts_on n plan ≡ false) same none in
       let nil : passages ≡ [] = are ∙ no_passages surface.id number 0 plan.steps [] ended.answers ran.answers
-          (subst (λ l. list_any (λ step. is_mount step.act && nat_eq step.surface surface.id) l ≡ false) (sym (append-nil plan.steps)) off) in
+      (subst (λ l. list_any (λ step. is_mount step.act && nat_eq step.surface surface.id) l ≡ false) (sym (append-nil plan.steps)) off) in
       let gone : is ≡ None = subst (LeavesMounted after None is) nil leaves in
       subst (LeavesBase surface after.seen plan passages) (sym gone) (off, nil)
   leaves_base ended after (Some coordinator) is [] ran are size mine leaves =

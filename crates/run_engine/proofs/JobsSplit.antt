@@ -22,7 +22,6 @@ use Rattle.run_engine.specs.Run.{commits_left}
 use Rattle.run_engine.specs.Jobs.{AreJobsAtStart, IsJobAtStart, MayGive, MayGiveAll, MayGiveEach, after_own_pass, after_own_passes, own_pass}
 use Rattle.run_engine.proofs.Found.{set_entry}
 use Rattle.run_engine.proofs.JobsGather.{both_push, there_too}
-
 use Rattle.run_engine.proofs.Loops.{at_item}
 use Rattle.run_engine.proofs.Openings.{commits_left-push, take_push}
 use Rattle.run_engine.proofs.Places.{changed_next, untouched_at, value_is}
@@ -123,11 +122,11 @@ module _ (spines : List (ℕ × Spine)) (plans : List PlainActor) (old now : Lis
         let longer = length-append jobs (job ∷ []) in
         let longer_plans = length-append (take n plans) (plan ∷ []) in (
           subst (λ l. AreJobsAtStart first old l all) (sym grown)
-          (subst (AreJobsAtStart first old (take n plans ++ plan ∷ [])) (sym alls)
-          (record {
-            count = omega (arith, longer, longer_plans, before.count);
-            each = both_push (λ k p j. IsJobAtStart first old k p j) (take n plans) jobs plan job before.count before.each (subst (λ k. IsJobAtStart first old k plan job) (sym firsts) own_start);
-          })),
+              (subst (AreJobsAtStart first old (take n plans ++ plan ∷ [])) (sym alls)
+              (record {
+                count = omega (arith, longer, longer_plans, before.count);
+                each = both_push (λ k p j. IsJobAtStart first old k p j) (take n plans) jobs plan job before.count before.each (subst (λ k. IsJobAtStart first old k plan job) (sym firsts) own_start);
+              })),
           news ∙ ap (map (after_own_pass plan.steps)) nows ∙ after_one_more (take n plans) plan old ∙ ap (λ l. map (after_own_passes l) old) (sym grown),
         )
 

@@ -16,8 +16,10 @@ mod opening;
 mod parts;
 mod runs;
 mod sending;
+mod spines;
 #[cfg(test)]
 mod tests;
+mod thread_run;
 mod threads;
 mod work;
 mod workers;
@@ -29,7 +31,8 @@ use runs::Run;
 use script_read::Script;
 use shadow_node::Made;
 use std::alloc::{AllocError, Global};
-pub use threads::{Worked, run_threads, run_workers};
+pub use thread_run::run_threads;
+pub use threads::{Worked, run_workers};
 
 /// Runs a script by its list of turns, and answers the journal of the run. It waits for nobody.
 ///

@@ -3,9 +3,6 @@
 ghost use Rattle.std.specs.Prelude.{IfOk};
 ghost use Rattle.tree_revision.specs.Sound.{IsSoundScript};
 ghost use Rattle.script_read.specs.Plain.{plain_script};
-ghost use Rattle.run_report.specs.Journal.{plain_journal};
-ghost use Rattle.run_report.specs.Legal.{IsLegal};
-ghost use Rattle.run_report.specs.Named.{NamesItsActors};
 ghost use Rattle.run_engine.specs.Numbers.{IsWithinNumbers};
 ghost use Rattle.run_engine.specs.Workers.{HaveWorked, MayWork};
 
@@ -17,7 +14,6 @@ use commit_spine::{Spine, SpinePass};
 use indexmap::IndexMap;
 use mount_coordinator::Coordinator;
 use run_actor::{Actor, Gate};
-use run_report::Journal;
 use script_read::Script;
 use std::alloc::{AllocError, Global};
 use std::sync::Wait;
@@ -36,7 +32,7 @@ pub struct Worked<'a> {
 /// at the end.
 ///
 /// A worker that meets want of memory ends, and the others run to their ends. After a refusal the
-/// events so far stand.
+/// events so far stand, and passes that were split may be gone with their shares.
 pub fn run_workers<'a, R: Threads + Wait + Sync, G: Gate + Sync>(
     rt: &R,
     alloc: Global,
@@ -57,22 +53,4 @@ pub fn run_workers<'a, R: Threads + Wait + Sync, G: Gate + Sync>(
     let mut jobs = jobs_of(alloc, plans, &first, spines, passes)?;
     run_jobs(rt, alloc, &mut jobs, spines, gate)?;
     gather(spines, passes, jobs, mounts, actors)
-}
-
-/// Runs a script on threads, and answers the journal of the run. Its list of turns is not used.
-///
-/// The script has fewer than 2^31 actors, and each of them fewer than 2^31 steps. What is said holds if
-/// it returns.
-pub fn run_threads<R: Threads + Wait + Sync, G: Gate + Sync>(
-    rt: &R,
-    alloc: Global,
-    script: &Script,
-    gate: &G,
-) -> Result<Journal, AllocError>
-    requires sound { IsSoundScript (plain_script script.now) }
-    requires numbers { IsWithinNumbers (plain_script script.now) }
-    ensures legal { IfOk result (λ journal. IsLegal (plain_script script.now) (plain_journal journal)) }
-    ensures names { IfOk result (λ journal. NamesItsActors (plain_journal journal)) }
-{
-    Err(AllocError)
 }

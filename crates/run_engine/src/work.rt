@@ -14,10 +14,9 @@ use mount_coordinator::Coordinator;
 use run_actor::{Desk, Gate, run_actor};
 use shadow_node::Made;
 use std::alloc::{AllocError, Global};
-use std::mem;
 use std::sync::Wait;
-use std::thread;
 use std::thread::Threads;
+use std::{mem, thread};
 
 /// A desk of each surface, with these passes and coordinators, in their order. They are added to
 /// `desks`, which is empty and has memory for all.
@@ -134,9 +133,12 @@ fn run_each<R: Threads + Wait + Sync, G: Gate + Sync>(
     jobs_are_sent();
     spines_are_shared();
     needs_sync::<IndexMap<u32, Spine>>(None);
-    thread::for_each_mut(rt, jobs, jobs.len().max(1), &|_, job| {
-        job.work(rt, alloc, spines, gate)
-    });
+    thread::for_each_mut(
+        rt,
+        jobs,
+        jobs.len().max(1),
+        &|_, job| { job.work(rt, alloc, spines, gate) },
+    );
 }
 
 /// Runs each job, on a thread of its own where one can be started. It is refused where want of memory
@@ -152,9 +154,5 @@ pub(crate) fn run_jobs<R: Threads + Wait + Sync, G: Gate + Sync>(
     ensures { OnOk result (AreRun spines.now.entries jobs.old jobs.new) }
 {
     run_each(rt, alloc, jobs, spines, gate);
-    if some_short(jobs) {
-        Err(AllocError)
-    } else {
-        Ok(())
-    }
+    if some_short(jobs) { Err(AllocError) } else { Ok(()) }
 }
