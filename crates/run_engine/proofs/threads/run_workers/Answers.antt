@@ -47,9 +47,14 @@ run_jobs-requires g c =
     let openings : AreOpenings script.surfaces first = subst (λ (l : List SurfacePlan). AreOpenings (map plain_surface l) first) c.as_slice.ensures c.in_ok-first.ensures in
     let starts : AreJobsAtStart first passes script.actors c.in_ok-jobs.jobs.items =
     subst (λ (l : List (ℕ × KeptRevision)). AreJobsAtStart l passes script.actors c.in_ok-jobs.jobs.items) c.deref-2.ensures.value
-    (subst (λ (l : List ActorPlan). AreJobsAtStart c.deref-2.result.now passes (map plain_actor l) c.in_ok-jobs.jobs.items) c.as_slice-plans.ensures c.in_ok-jobs.ensures.jobs) in
-    (c.type_bounds.sync-R, (c.type_bounds.sync-G, subst (MayRunEach c.args.spines.now.entries) (sym c.deref_mut.ensures.value)
-    (may_run_each script c.requires.sound c.args.spines.now.entries passes c.requires.passes first openings c.in_ok-jobs.jobs.items starts)))
+    (subst (λ (l : List ActorPlan). AreJobsAtStart c.deref-2.result.now passes (map plain_actor l) c.in_ok-jobs.jobs.items) c.as_slice-plans.ensures c.in_ok-jobs.ensures.jobs) in (
+      c.type_bounds.sync-R,
+      (
+        c.type_bounds.sync-G,
+        subst (MayRunEach c.args.spines.now.entries) (sym c.deref_mut.ensures.value)
+            (may_run_each script c.requires.sound c.args.spines.now.entries passes c.requires.passes first openings c.in_ok-jobs.jobs.items starts),
+      ),
+    )
 
 pub gather-requires-clause-may : goal.gather-requires-clause-may
 gather-requires-clause-may g c =
