@@ -1,34 +1,32 @@
 -- The workers of a script begin, and what they leave.
-use Rattle.std.proofs.Common.{◌≡◌, ℕ, zero, suc, ◌+◌, ◌-◌, ◌≤◌, ◌<◌, Bool, true, false, cond, ◌||◌, List, [], ◌∷◌, length, map, take, slice_get, arith, refl, ap, sym, subst, ◌∙◌, eqb-true, inl, inr}
-use Rattle.std.specs.Prelude.{Some, None, Option, nat_eq, count_by, sum_by, All, Contains}
+use Rattle.std.proofs.Common.{◌≡◌, ℕ, suc, ◌+◌, ◌≤◌, true, ◌||◌, List, [], ◌∷◌, length, map, slice_get, arith, refl, ap, sym, subst, ◌∙◌, eqb-true, inl, inr}
+use Rattle.std.specs.Prelude.{Some, nat_eq, All, Contains}
 use Rattle.std.specs.Option.{option_map}
 use Rattle.std.specs.List.{IsDistinct, AllZip, list_any}
 use Rattle.std.specs.Map.{keys_of}
 use Rattle.std.proofs.lemmas.Bool.{cases_Bool, true≢false}
-use Rattle.std.proofs.lemmas.Option.{none-some, same_Some, slice_get-map, slice_get_within}
+use Rattle.std.proofs.lemmas.Option.{none-some, same_Some, slice_get-map}
 use Rattle.std.proofs.lemmas.List.{length-map}
 use Rattle.tree_revision.specs.InRange.{IsStepInRange}
 use Rattle.tree_revision.specs.Records.{PlainRecord}
 use Rattle.tree_revision.specs.Script.{PlainActor, PlainScript, PlainStep, PlainSurface}
 use Rattle.tree_revision.specs.Settled.{KeptRevision}
 use Rattle.tree_revision.specs.Sound.{HasOneMounter, IsSoundScript, ids_of}
-use Rattle.mount_coordinator.specs.Mounted.{PlainCoordinator, IsBaseIn}
-use Rattle.run_report.specs.Mounts.{passages_by}
+use Rattle.mount_coordinator.specs.Mounted.{PlainCoordinator}
 use Rattle.run_report.specs.Shorthands.{begun}
 use Rattle.run_report.proofs.Lists.{all_at}
 use Rattle.run_report.proofs.Pairs.{all_zip_at, all_zip_length}
 use Rattle.commit_spine.specs.declared.spine_parts.Spine.{Spine}
-use Rattle.commit_spine.specs.Calls.{IsPassOf}
 use Rattle.commit_spine.specs.SpinePasses.{PassValue}
 use Rattle.commit_spine.specs.SpinePorts.{spine_told}
 use Rattle.run_actor.specs.Actors.{RunningActor}
 use Rattle.run_actor.specs.Actions.{begun_actor}
-use Rattle.run_actor.specs.Runs.{HasRun, HasRunOn, IsBegun, MayBegin, commits_on}
+use Rattle.run_actor.specs.Runs.{HasRun, HasRunOn, IsBegun, MayBegin}
 use Rattle.run_engine.specs.declared.jobs.Job.{Job}
 use Rattle.run_engine.specs.Opening.{AreOpenings, IsOpening}
 use Rattle.run_engine.specs.Run.{commits_left}
-use Rattle.run_engine.specs.Workers.{HasEnded, HasWorkedOn, HaveWorked, HaveWorkedOn, MayBeSplit, MayWork}
-use Rattle.run_engine.specs.Jobs.{AreDone, AreGathered, AreJobsAtStart, AreOfSpines, AreRun, HasGathered, HasLeft, HasRunJob, IsDone, IsJobAtStart, IsMountFor, IsUnmounted, MayGather, MayGiveAll, MayRun, MayRunEach, after_own_passes, own_pass}
+use Rattle.run_engine.specs.Workers.{HasEnded, HaveWorked, HaveWorkedOn, MayWork}
+use Rattle.run_engine.specs.Jobs.{AreDone, AreGathered, AreJobsAtStart, AreOfSpines, AreRun, HasGathered, HasRunJob, IsDone, IsJobAtStart, IsMountFor, IsUnmounted, MayGather, MayGiveAll, MayRun, MayRunEach, after_own_passes, own_pass}
 use Rattle.run_engine.proofs.JobsBegin.{first_base, job_begins, job_leaves, same_spine}
 use Rattle.run_engine.proofs.Gathered.{keys_length}
 use Rattle.run_engine.proofs.JobsGather.{there_too}

@@ -1,5 +1,5 @@
 -- What is gathered of a surface, an actor further.
-use Rattle.std.proofs.Common.{◌≡◌, ℕ, zero, suc, ◌+◌, ◌≤◌, ◌<◌, true, false, List, [], ◌∷◌, ◌++◌, length, take, drop, map, slice_get, arith, refl, ap, sym, subst, ◌∙◌, append_assoc, append-nil, length-append, take-append-drop}
+use Rattle.std.proofs.Common.{◌≡◌, ℕ, zero, suc, ◌+◌, ◌≤◌, ◌<◌, List, [], ◌∷◌, ◌++◌, length, take, drop, map, slice_get, arith, refl, ap, sym, subst, ◌∙◌, append_assoc, append-nil, length-append, take-append-drop}
 use Rattle.std.specs.Prelude.{Some, None, Option, count_by, sum_by, cond, unwrap_or}
 use Rattle.std.specs.List.{flat_map, enumerate_from}
 use Rattle.std.specs.Map.{keys_of}

@@ -1,6 +1,6 @@
 -- A job is run at desks that are made of its passes.
-use Rattle.std.proofs.Common.{◌≡◌, ℕ, zero, suc, List, [], ◌∷◌, ◌++◌, length, map, take, slice_get, get_or, false, ◌<◌, arith, refl, ap, sym, subst, ◌∙◌, append_assoc, append-nil, length-append}
-use Rattle.std.specs.Prelude.{Some, None, Option, All, Contains, Vec, nat_eq}
+use Rattle.std.proofs.Common.{◌≡◌, ℕ, suc, List, [], ◌∷◌, ◌++◌, length, map, take, slice_get, get_or, false, ◌<◌, arith, ap, sym, subst, ◌∙◌, append_assoc, length-append}
+use Rattle.std.specs.Prelude.{Some, Option, All, Contains, Vec, nat_eq}
 use Rattle.std.specs.declared.alloc.Global.{Global}
 use Rattle.std.specs.Option.{option_map}
 use Rattle.std.specs.List.{IsDistinct, list_any}
@@ -14,7 +14,6 @@ use Rattle.mount_coordinator.specs.Mounted.{PlainCoordinator}
 use Rattle.commit_spine.specs.declared.spine_parts.Spine.{Spine}
 use Rattle.commit_spine.specs.SpinePasses.{PassValue}
 use Rattle.commit_spine.specs.SpinePorts.{spine_told}
-use Rattle.run_actor.specs.Actors.{RunningActor}
 use Rattle.run_actor.specs.Runs.{HasRun, HasRunOn, MayBegin}
 use Rattle.run_engine.specs.declared.jobs.Job.{Job}
 use Rattle.run_engine.specs.Jobs.{AreDesksOf, AreRun, HasRunJob, HasWorkedOff, MayRun, MayRunEach, SpineDesk, mount_at_desk, pass_at_desk}

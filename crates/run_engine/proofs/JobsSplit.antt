@@ -1,6 +1,6 @@
 -- Passes are split for the actors, one after the other.
-use Rattle.std.proofs.Common.{◌≡◌, ℕ, zero, suc, ◌+◌, ◌-◌, ◌<◌, ◌≤◌, ◌^◌, List, [], ◌∷◌, ◌++◌, length, map, take, drop, get_or, slice_get, slice_set, arith, refl, ap, sym, subst, ◌∙◌, take-append-drop, length-append}
-use Rattle.std.specs.Prelude.{Some, All, count_by}
+use Rattle.std.proofs.Common.{◌≡◌, ℕ, zero, suc, ◌+◌, ◌-◌, ◌<◌, ◌≤◌, List, [], ◌∷◌, ◌++◌, length, map, take, drop, get_or, slice_get, slice_set, arith, refl, ap, sym, subst, ◌∙◌, take-append-drop, length-append}
+use Rattle.std.specs.Prelude.{Some, count_by}
 use Rattle.std.specs.Option.{option_map}
 use Rattle.std.specs.Map.{values_of}
 use Rattle.std.proofs.lemmas.Option.{slice_get-map, slice_get_within, same_Some, none-some}
@@ -8,10 +8,9 @@ use Rattle.std.proofs.lemmas.List.{length-map, map-append, length-take}
 use Rattle.indexmap.specs.IndexMap.{set_value_at}
 use Rattle.tree_revision.specs.Script.{PlainActor, PlainStep}
 use Rattle.tree_revision.specs.Settled.{KeptRevision}
-use Rattle.script_read.specs.Plain.{plain_actor, plain_step}
+use Rattle.script_read.specs.Plain.{plain_actor}
 use Rattle.script_read.specs.declared.script.ActorPlan.{ActorPlan}
 use Rattle.commit_spine.specs.declared.spine_parts.Spine.{Spine}
-use Rattle.commit_spine.specs.Passes.{KeptByPass}
 use Rattle.commit_spine.specs.SpinePasses.{PassValue}
 use Rattle.commit_spine.specs.StepKinds.{after_split, split_off}
 use Rattle.run_report.specs.Shorthands.{begun}

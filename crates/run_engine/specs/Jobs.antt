@@ -1,5 +1,5 @@
 -- The jobs of the workers: how they are dealt, and what each leaves. Only contracts inside the crate cite it.
-use Rattle.std.specs.Prelude.{◌≡◌, ℕ, ◌+◌, ◌-◌, ◌≤◌, List, [], ◌∷◌, length, map, sum_by, count_by, nat_eq, Contains, true, false, slice_get, Option, None, Some, unwrap_or}
+use Rattle.std.specs.Prelude.{◌≡◌, ℕ, ◌+◌, ◌-◌, ◌≤◌, List, [], length, map, sum_by, count_by, nat_eq, Contains, true, false, slice_get, Option, None, Some, unwrap_or}
 use Rattle.std.specs.List.{AllZip, IsDistinct}
 use Rattle.std.specs.Map.{keys_of}
 use Rattle.counts.specs.Raised.{raised}

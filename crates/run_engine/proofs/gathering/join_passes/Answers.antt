@@ -1,4 +1,4 @@
-use Rattle.std.proofs.Common.{◌≡◌, length, ap, sym, ◌∙◌, arith, slice_get, suc, length-append, ◌++◌, ◌∷◌, [], ◌+◌}
+use Rattle.std.proofs.Common.{◌≡◌, length, ap, sym, ◌∙◌, arith, slice_get, suc, length-append, ◌∷◌, [], ◌+◌}
 use Rattle.std.specs.Prelude.{Some}
 use Rattle.std.specs.Option.{option_copied_mut}
 use Rattle.run_engine.proofs.Finishing.{at_yielded, yielded_next}

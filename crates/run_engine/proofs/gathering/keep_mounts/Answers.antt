@@ -1,4 +1,4 @@
-use Rattle.std.proofs.Common.{◌≡◌, length, ap, sym, ◌∙◌, arith, slice_get, suc, length-append, ◌++◌, ◌∷◌, [], ◌+◌, ◌<◌}
+use Rattle.std.proofs.Common.{◌≡◌, length, ap, sym, ◌∙◌, arith, slice_get, suc, length-append, ◌∷◌, [], ◌+◌, ◌<◌}
 use Rattle.std.specs.Prelude.{Some}
 use Rattle.run_engine.proofs.Finishing.{at_yielded, yielded_below, yielded_next}
 use Rattle.run_engine.proofs.Gathered.{all_came}

@@ -1,4 +1,4 @@
-use Rattle.std.proofs.Common.{◌≡◌, length, map, take}
+use Rattle.std.proofs.Common.{◌≡◌, map, take}
 use Rattle.script_read.specs.Plain.{plain_actor}
 use Rattle.run_engine.specs.Jobs.{AreJobsAtStart, after_own_passes}
 use Rattle.run_engine.proofs.jobs.jobs_of.Given as goal

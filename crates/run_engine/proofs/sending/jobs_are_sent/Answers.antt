@@ -1,4 +1,3 @@
-use denote.Hole.{as_row}
 use denote.Param.Send.{sendable}
 use denote.Param.SendFields.{declared_send}
 use Rattle.std.proofs.Crossing.{crosses}

@@ -1,7 +1,7 @@
-use Rattle.std.proofs.Common.{◌≡◌, length, ap, sym, ◌∙◌, arith, slice_get}
+use Rattle.std.proofs.Common.{◌≡◌, length, ap, sym, ◌∙◌, slice_get}
 use Rattle.std.specs.Prelude.{Some}
 use Rattle.std.proofs.lemmas.List.{length-map}
-use Rattle.run_engine.specs.Jobs.{mount_at_desk, pass_at_desk}
+use Rattle.run_engine.specs.Jobs.{pass_at_desk}
 use Rattle.run_engine.proofs.Finishing.{at_yielded, yielded_next}
 use Rattle.run_engine.proofs.Openings.{is_new}
 use Rattle.run_engine.proofs.JobsRun.{desk_keys_next, mounts_next, passes_next}
