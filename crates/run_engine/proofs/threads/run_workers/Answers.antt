@@ -1,4 +1,4 @@
-use Rattle.std.proofs.Common.{◌≡◌, ◌<◌, ℕ, List, [], ◌++◌, length, take, drop, map, ap, sym, subst, ◌∙◌, take_at}
+use Rattle.std.proofs.Common.{◌≡◌, ◌<◌, ℕ, List, [], length, map, arith, ap, sym, subst, ◌∙◌}
 use Rattle.std.specs.Prelude.{nat_eq, slice_index_or}
 use Rattle.std.specs.List.{AllZip, IsDistinct}
 use Rattle.std.specs.Map.{keys_of}
@@ -11,15 +11,12 @@ use Rattle.commit_spine.specs.SpinePasses.{PassValue}
 use Rattle.run_engine.specs.declared.jobs.Job.{Job}
 use Rattle.run_engine.specs.Opening.{AreOpenings}
 use Rattle.run_engine.specs.Workers.{HaveWorked}
-use Rattle.run_engine.specs.Jobs.{AreRun, MayRunEach, AreDone, AreGathered, AreJobsAtStart, IsUnmounted, MayGather, MayGiveAll, after_own_passes}
+use Rattle.run_engine.specs.Jobs.{AreDone, AreGathered, AreJobsAtStart, AreRun, IsUnmounted, MayGather, MayGiveAll, MayRunEach, after_own_passes}
 use Rattle.run_engine.proofs.Openings.{ids_are, keys_map, numbers_are_zero}
-use Rattle.run_engine.proofs.Places.{if_ok_both}
+use Rattle.run_engine.proofs.JobsGather.{actor_of}
+use Rattle.run_engine.proofs.Places.{if_ok_both, written_back}
 use Rattle.run_engine.proofs.JobsDone.{are_done, have_worked, may_gather, may_give_all, may_run_each, none_gathered}
 use Rattle.run_engine.proofs.threads.run_workers.Goals as goal
-
--- what a slice of a whole list leaves of it
-all_back : (jobs after : List Job) (count : ℕ) → count ≡ length jobs → length after ≡ length jobs → take count (after ++ drop (length after) jobs) ≡ after
-all_back jobs after count whole same = take_at after (drop (length after) jobs) count (same ∙ sym whole)
 
 pub coordinators_of-requires : goal.coordinators_of-requires
 coordinators_of-requires g c k d below =
@@ -72,12 +69,12 @@ gather-requires-clause-may g c =
     subst (λ (l : List (ℕ × KeptRevision)). AllZip (λ entry. IsUnmounted entry.1) l c.in_ok-mounts.mounts.items) c.deref.ensures.value c.in_ok-mounts.ensures in
     let shared : c.jobs_of.new.passes.entries ≡ map (after_own_passes script.actors) passes =
     c.in_ok-jobs.ensures.passes ∙ ap (λ (l : List ActorPlan). map (after_own_passes (map plain_actor l)) passes) c.as_slice-plans.ensures in
-    let run : AreRun c.args.spines.now.entries c.in_ok-jobs.jobs.items c.run_jobs.new.jobs =
+    let ran : AreRun c.args.spines.now.entries c.in_ok-jobs.jobs.items c.run_jobs.new.jobs =
     subst (λ (l : List Job). AreRun c.args.spines.now.entries l c.run_jobs.new.jobs) c.deref_mut.ensures.value c.in_ok-run_jobs.ensures in
-    subst (λ (l : List Job). MayGather c.args.spines.now.entries c.jobs_of.new.passes.entries l c.in_ok-mounts.mounts.items)
-    (sym (all_back c.in_ok-jobs.jobs.items c.run_jobs.new.jobs c.in_ok-jobs.jobs.len c.in_ok-jobs.jobs.ok.0 run.count))
+    let whole = written_back c.in_ok-jobs.jobs.items c.run_jobs.new.jobs c.in_ok-jobs.jobs.len ran.count (omega (arith, c.in_ok-jobs.jobs.ok.0)) in
+    subst (λ (l : List Job). MayGather c.args.spines.now.entries c.jobs_of.new.passes.entries l c.in_ok-mounts.mounts.items) (sym whole)
     (subst (λ (l : List (ℕ × PassValue)). MayGather c.args.spines.now.entries l c.run_jobs.new.jobs c.in_ok-mounts.mounts.items) (sym shared)
-    (may_gather script c.requires.sound c.args.spines.now.entries passes c.requires.passes first openings c.in_ok-jobs.jobs.items starts c.run_jobs.new.jobs run
+    (may_gather script c.requires.sound c.args.spines.now.entries passes c.requires.passes first openings c.in_ok-jobs.jobs.items starts c.run_jobs.new.jobs ran
     c.in_ok-mounts.mounts.items unmounted))
 
 pub returns : goal.returns
@@ -88,8 +85,6 @@ returns g c =
     let first = c.in_ok-first.first.items in
     let jobs = c.in_ok-jobs.jobs.items in
     let after = c.run_jobs.new.jobs in
-    let run : AreRun spines jobs after = subst (λ (l : List Job). AreRun spines l after) c.deref_mut.ensures.value c.in_ok-run_jobs.ensures in
-    let back = all_back jobs after c.in_ok-jobs.jobs.len c.in_ok-jobs.jobs.ok.0 run.count in
     let mounts = c.in_ok-mounts.mounts.items in
     let openings : AreOpenings script.surfaces first = subst (λ (l : List SurfacePlan). AreOpenings (map plain_surface l) first) c.as_slice.ensures c.in_ok-first.ensures in
     let starts : AreJobsAtStart first passes script.actors jobs =
@@ -99,15 +94,17 @@ returns g c =
     subst (λ (l : List (ℕ × KeptRevision)). AllZip (λ entry. IsUnmounted entry.1) l mounts) c.deref.ensures.value c.in_ok-mounts.ensures in
     let shared : c.jobs_of.new.passes.entries ≡ map (after_own_passes script.actors) passes =
     c.in_ok-jobs.ensures.passes ∙ ap (λ (l : List ActorPlan). map (after_own_passes (map plain_actor l)) passes) c.as_slice-plans.ensures in
-    let done : AreDone script.surfaces script.actors after = are_done script c.requires.sound spines passes c.requires.passes first openings jobs starts after run mounts unmounted in
+    let ran : AreRun spines jobs after = subst (λ (l : List Job). AreRun spines l after) c.deref_mut.ensures.value c.in_ok-run_jobs.ensures in
+    let whole = written_back jobs after c.in_ok-jobs.jobs.len ran.count (omega (arith, c.in_ok-jobs.jobs.ok.0)) in
+    let done : AreDone script.surfaces script.actors after = are_done script c.requires.sound spines passes c.requires.passes first openings jobs starts after ran mounts unmounted in
     let none : AreGathered script.surfaces [] [] c.jobs_of.new.passes.entries c.jobs_of.new.passes.entries mounts =
     subst (λ (l : List (ℕ × PassValue)). AreGathered script.surfaces [] [] l l mounts) (sym shared)
-    (none_gathered script c.requires.sound spines passes c.requires.passes first openings jobs starts after run mounts unmounted) in
+    (none_gathered script c.requires.sound spines passes c.requires.passes first openings jobs starts after ran mounts unmounted) in
     record {
       worked = if_ok_both c.gather.result _ _ (λ worked. HaveWorked script passes c.gather.new.passes.entries worked.actors.items worked.mounts.items)
-          (λ worked actors gathered. have_worked script c.requires.sound spines passes c.requires.passes first openings jobs starts after run mounts unmounted
-          c.gather.new.passes.entries worked.actors.items worked.mounts.items (actors ∙ ap (λ (l : List Job). map (λ job. job.actor) l) back)
+          (λ worked actors gathered. have_worked script c.requires.sound spines passes c.requires.passes first openings jobs starts after ran mounts unmounted
+          c.gather.new.passes.entries worked.actors.items worked.mounts.items (actors ∙ ap (map actor_of) whole)
           (subst (λ (l : List (ℕ × PassValue)). AreGathered script.surfaces script.actors worked.actors.items l c.gather.new.passes.entries worked.mounts.items) shared
-          (gathered script.surfaces script.actors (subst (AreDone script.surfaces script.actors) (sym back) done) none)))
+          (gathered script.surfaces script.actors (subst (AreDone script.surfaces script.actors) (sym whole) done) none)))
           c.gather.ensures.actors c.gather.ensures.gathered;
     }
