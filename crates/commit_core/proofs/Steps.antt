@@ -12,7 +12,7 @@ use Rattle.tree_revision.specs.Settled.{KeptRevision}
 use Rattle.tree_revision.specs.Stands.{StandsFor}
 use Rattle.tree_revision.specs.Ports.{Told, BeginsWith, Lasts, IsLook, IsOffer, Stays}
 use Rattle.commit_core.specs.declared.committer.Progress.{Progress}
-use Rattle.commit_core.specs.declared.committer.Progress.TheVariants.{Looked, Again, Busy, Done, Memory}
+use Rattle.commit_core.specs.declared.committer.Progress.TheVariants.{Again}
 use Rattle.commit_core.specs.Commit.{CommitPhase, fresh, ready, over, PlainCommit, commit_in, look_in, looked_at}
 use Rattle.commit_core.specs.Events.{MayBeTried, MayLook, MayOffer, IsClearLook, IsCancelledLook, IsAdmittedOffer, IsFoundBehind, IsLateOffer, IsLookInVain, IsReadyIn, IsReadyFor, IsEvent}
 

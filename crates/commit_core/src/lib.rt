@@ -5,9 +5,11 @@ mod committer;
 pub mod laws;
 mod plain;
 mod plain_parts;
+mod sending;
 
 pub use committer::{Committer, Progress};
 pub use plain_parts::{PlainPass, PlainPort, PlainSpine};
+pub use sending::commits_are_sent;
 
 #[cfg(test)]
 mod tests;

@@ -5,11 +5,10 @@
 //! word without a lock, and no call waits.
 #![tactic(auto)]
 
-ghost use denote.Param.Send.{IsSend};
-
 mod mark;
 mod pass;
 mod rule;
+mod sending;
 mod spine;
 mod spine_parts;
 mod spine_port;
@@ -19,21 +18,7 @@ mod store;
 mod tests;
 
 pub use pass::SpinePass;
+pub use sending::{passes_are_sent, spines_are_shared};
 pub use spine_parts::Spine;
 pub use spine_port::SpinePort;
 pub use store::Store;
-
-fn needs_send<T: Send>(_value: &T)
-    ensures { IsSend T.row }
-{}
-
-fn needs_sync<T: Sync>(_value: &T) {}
-
-/// A spine is shared by threads; stores are handed to them, and the seats that passes step with.
-/// That a whole pass may be handed to a thread is not shown.
-pub fn is_shared_by_threads(spine: &Spine, pass: &SpinePass, store: &Store) {
-    needs_send(store);
-    needs_send(&pass.seat);
-    needs_send(spine);
-    needs_sync(spine);
-}

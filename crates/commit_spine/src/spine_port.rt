@@ -10,6 +10,7 @@ use crate::spine_parts::Spine;
 use tree_revision::{LookRefusal, OfferRefusal, Port, Record, Revision};
 
 /// A pass, with the spine that it is of.
+#[derive(Drop)]
 pub struct SpinePort<'a> {
     spine: &'a Spine,
     pass: SpinePass,

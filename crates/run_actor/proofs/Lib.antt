@@ -1,3 +1,12 @@
 pub mod Acts
 pub mod Commits
 pub mod Starts
+pub mod StepsLeft
+pub mod MountsMade
+pub mod Quiet
+pub mod Acted
+pub mod Kept
+pub mod Own
+pub mod Others
+pub mod Ends
+pub mod DeskByDesk

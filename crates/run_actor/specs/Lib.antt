@@ -3,3 +3,4 @@ pub mod Actions
 pub mod Event
 pub mod Steps
 pub mod Runs
+pub mod Running

@@ -185,7 +185,7 @@ impl<'a> Actor<'a> {
     }
 
     /// The name of the step that it is at.
-    fn step_name(&self) -> StepName
+    pub(crate) fn step_name(&self) -> StepName
         ensures { result ≡ step_name self.now }
     {
         StepName {

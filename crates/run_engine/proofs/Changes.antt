@@ -1,5 +1,5 @@
 -- What a turn changes of a surface and of its actor there.
-use Rattle.std.proofs.Common.{◌≡◌, ℕ, zero, suc, ◌+◌, ◌≤◌, Bool, List, [], ◌∷◌, ◌++◌, length, take, map, filter, arith, refl, ap, sym, ◌∙◌, subst, true, false, cond, length-append, append-nil, inl, inr}
+use Rattle.std.proofs.Common.{◌≡◌, ℕ, zero, suc, ◌+◌, ◌≤◌, List, [], ◌∷◌, ◌++◌, length, take, map, arith, refl, ap, sym, ◌∙◌, subst, true, false, cond, length-append, append-nil, inl, inr}
 use Rattle.std.specs.Prelude.{nat_eq, Some, None, Ok, count_by, slice_get}
 use Rattle.std.proofs.lemmas.Bool.{eq-eqb, ne_eqb}
 use Rattle.std.proofs.lemmas.Option.{same_Some}
@@ -23,7 +23,6 @@ use Rattle.mount_coordinator.specs.declared.coordinator.Transaction.{Transaction
 use Rattle.tree_revision.specs.declared.record.Answer.TheVariants.{Admitted, Mounted, Empty}
 use Rattle.run_report.specs.declared.journal.StepName.{StepName}
 use Rattle.run_report.specs.declared.journal.StepPart.{StepPart}
-use Rattle.run_report.specs.declared.journal.MountPart.{MountPart}
 use Rattle.run_report.specs.Journal.{plain_mount}
 use Rattle.run_report.specs.Mounts.{Passage, passage_of, passages_by, mount_along}
 use Rattle.run_report.specs.Machine.{SurfaceNow, ActorNow, Moment, moment, answered, after_commit, after_event}
@@ -36,7 +35,8 @@ use Rattle.run_engine.specs.Now.{PlainDesk, desk_records, told_with, surface_now
 use Rattle.run_engine.specs.Run.{AreWithin, IsOpen, IsSeated}
 use Rattle.run_actor.specs.Runs.{commits_on, mounts_made_on}
 use Rattle.run_engine.specs.declared.workers.Worker.{Worker}
-use Rattle.run_engine.proofs.Quiet.{MountsNone, one_fewer, event_elsewhere, commit_quiet, hold_quiet, trying_quiet, answered_quiet}
+use Rattle.run_actor.proofs.MountsMade.{mounts_made_on-push, mounts_made_on-other}
+use Rattle.run_actor.proofs.Quiet.{MountsNone, one_fewer, event_elsewhere, commit_quiet, hold_quiet, trying_quiet, answered_quiet}
 
 -- more records change nothing of what stands mounted
 pub mounted_more : (first : Size) (entries more : List PlainRecord) (base : SettledRevision) → IsBaseIn first entries base → IsBaseIn first (entries ++ more) base
@@ -67,28 +67,6 @@ within-more few many (step ∷ passages) low all = ((omega (arith, all.0.0, low)
 within-push : (count : ℕ) (passages : List Passage) (step : Passage) → AreWithin count passages → step.base ≤ count → step.to ≤ count → AreWithin count (passages ++ step ∷ [])
 within-push count [] step all base to = ((base, to), tt)
 within-push count (s ∷ passages) step all base to = (all.0, within-push count passages step all.1 base to)
-
--- one mount behind others, where a test answers for the first
-module _ (id : ℕ) (m : ℕ × MountPart) (more less : List (ℕ × MountPart)) where
-  one_head : (b : Bool) (part : MountPart) → mounts_made_on id more ≡ mounts_made_on id less ++ plain_mount part ∷ []
-      → map (λ (entry : ℕ × MountPart). plain_mount entry.1) (cond b (m ∷ filter (λ entry. nat_eq entry.0 id) more) (filter (λ entry. nat_eq entry.0 id) more))
-      ≡ map (λ (entry : ℕ × MountPart). plain_mount entry.1) (cond b (m ∷ filter (λ entry. nat_eq entry.0 id) less) (filter (λ entry. nat_eq entry.0 id) less)) ++ plain_mount part ∷ []
-  one_head true part e = ap (λ l. plain_mount m.1 ∷ l) e
-  one_head false part e = e
-
-  same_head : (b : Bool) → mounts_made_on id more ≡ mounts_made_on id less
-      → map (λ (entry : ℕ × MountPart). plain_mount entry.1) (cond b (m ∷ filter (λ entry. nat_eq entry.0 id) more) (filter (λ entry. nat_eq entry.0 id) more))
-      ≡ map (λ (entry : ℕ × MountPart). plain_mount entry.1) (cond b (m ∷ filter (λ entry. nat_eq entry.0 id) less) (filter (λ entry. nat_eq entry.0 id) less))
-  same_head true e = ap (λ l. plain_mount m.1 ∷ l) e
-  same_head false e = e
-
-mounts_made_on-push : (id : ℕ) (mounts : List (ℕ × MountPart)) (part : MountPart) → mounts_made_on id (mounts ++ (id, part) ∷ []) ≡ mounts_made_on id mounts ++ plain_mount part ∷ []
-mounts_made_on-push id [] part = ap (λ b. map (λ (entry : ℕ × MountPart). plain_mount entry.1) (cond b ((id, part) ∷ []) [])) (eq-eqb id id refl)
-mounts_made_on-push id (m ∷ mounts) part = one_head id m (mounts ++ (id, part) ∷ []) mounts (nat_eq m.0 id) part (mounts_made_on-push id mounts part)
-
-mounts_made_on-other : (id other : ℕ) (mounts : List (ℕ × MountPart)) (part : MountPart) → nat_eq id other ≡ false → mounts_made_on other (mounts ++ (id, part) ∷ []) ≡ mounts_made_on other mounts
-mounts_made_on-other id other [] part off = ap (λ b. map (λ (entry : ℕ × MountPart). plain_mount entry.1) (cond b ((id, part) ∷ []) [])) off
-mounts_made_on-other id other (m ∷ mounts) part off = same_head other m (mounts ++ (id, part) ∷ []) mounts (nat_eq m.0 other) (mounts_made_on-other id other mounts part off)
 
 -- all that is as long as the whole is the whole
 take_whole : {A : Type 0} (n : ℕ) (xs : List A) → length (take n xs) ≡ length xs → take n xs ≡ xs

@@ -1,6 +1,7 @@
 -- The closing mount, and what a surface leaves.
-use Rattle.std.proofs.Common.{◌≡◌, List, [], ◌∷◌, ◌++◌, map, arith, ap, sym, subst, ◌∙◌, false, cond}
-use Rattle.std.specs.Prelude.{nat_eq, Option, None, Some, Ok}
+use Rattle.std.proofs.Common.{◌≡◌, ℕ, List, [], ◌∷◌, ◌++◌, map, arith, ap, sym, subst, ◌∙◌, false, cond}
+use Rattle.std.specs.Prelude.{nat_eq, Option, None, Some, Result, Ok, Err, IfOk}
+use Rattle.std.specs.declared.alloc.AllocError.{AllocError}
 use Rattle.std.proofs.lemmas.Bool.{eq-eqb, ne_eqb}
 use Rattle.std.proofs.lemmas.List.{map-append}
 use Rattle.std.proofs.lemmas.Option.{same_Some}
@@ -20,10 +21,13 @@ use Rattle.mount_coordinator.specs.Mounted.{PlainCoordinator, IsBaseIn, host_tre
 use Rattle.mount_coordinator.specs.Answers.{IsTransaction, IsNothingNewer, IsFinishAnswer}
 use Rattle.mount_coordinator.specs.declared.coordinator.Transaction.{Transaction}
 use Rattle.run_report.specs.declared.journal.MountPart.{MountPart}
+use Rattle.run_report.specs.declared.journal.SurfacePart.{SurfacePart}
 use Rattle.run_report.specs.Journal.{plain_mount}
 use Rattle.run_report.specs.Mounts.{Passage, closed, last_to, mount_along}
 use Rattle.run_engine.specs.Now.{PlainDesk, desk_records}
 use Rattle.run_engine.specs.Run.{IsOpen}
+use Rattle.run_engine.specs.Ends.{IsClosedPart, IsPartOf}
+use Rattle.run_actor.specs.Event.{base_of}
 
 -- there is a closing mount
 pub closing_some : (first : Size) (records : List PlainRecord) (passages : List Passage) (old new : PlainCoordinator) (transaction : Transaction) (part : MountPart) (mounts all : List MountPart)
@@ -80,3 +84,11 @@ spine_stands port spine pass front shared told stands is =
 pub base_stands : (desk : PlainDesk) → IsOpen desk → (coordinator : PlainCoordinator) → desk.mount ≡ Some coordinator → IsBaseIn desk.port.spine.first (desk_records desk) coordinator.base
 base_stands desk mounted coordinator is =
     subst (λ (c : PlainCoordinator). IsBaseIn desk.port.spine.first (desk_records desk) c.base) (same_Some mounted.coordinator coordinator (sym mounted.mounted ∙ is)) mounted.base
+
+-- the part of closed records is that of the desk that they are of
+pub part_of_desk : (id : ℕ) (desk : PlainDesk) (mounts : List MountPart) (records : List PlainRecord) (front : KeptRevision) (coordinator : PlainCoordinator) (result : Result SurfacePart AllocError)
+    → records ≡ desk_records desk → StandsFor desk.port.spine.first front (desk_records desk) → IsBaseIn desk.port.spine.first (desk_records desk) coordinator.base
+    → base_of desk.mount ≡ coordinator.base.number → IfOk result (IsClosedPart id records front coordinator.base mounts) → IfOk result (IsPartOf id desk mounts)
+part_of_desk id desk mounts records front coordinator (Ok part) same stands mounted base is =
+    λ passages last along. (subst (λ records. IsClosedPart id records front coordinator.base mounts part) same is).along desk.port.spine.first passages stands mounted (last ∙ base) along
+part_of_desk id desk mounts records front coordinator (Err refusal) same stands mounted base is = tt

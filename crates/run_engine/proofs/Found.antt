@@ -1,6 +1,6 @@
 -- The surface of a step, as a map finds it.
 use Rattle.std.proofs.Common.{◌≡◌, ◌<◌, ℕ, zero, suc, false, List, [], ◌∷◌, length, find, get_or, map, slice_get, slice_set, arith, refl, ap, sym, ◌∙◌, cond}
-use Rattle.std.specs.Prelude.{Some, None, nat_eq, option_map, position, OnOk, Result, Ok, Err}
+use Rattle.std.specs.Prelude.{Some, None, nat_eq, position, OnOk, Result, Ok, Err}
 use Rattle.std.specs.List.{AllByRecursion}
 use Rattle.std.specs.Map.{keys_of, values_of}
 use Rattle.std.proofs.lemmas.Bool.{eqb-true, ne_eqb, eqb-false}
@@ -9,19 +9,7 @@ use Rattle.std.proofs.lemmas.Map.{none_passes_from_lookup}
 use Rattle.std.proofs.lemmas.Option.{none-some, same_Some}
 use Rattle.indexmap.specs.IndexMap.{set_value_at}
 use Rattle.indexmap.proofs.MapLemmas.{Missing-position}
-use Rattle.tree_revision.specs.Script.{PlainStep}
 use Rattle.run_engine.specs.Now.{PlainDesk, surface_now}
-
--- the step whose surface was asked for
-pub step_at : (left : List PlainStep) (id : ℕ) → option_map (λ step. step.surface) (slice_get left 0) ≡ Some id
-    → (step : PlainStep) × (slice_get left 0 ≡ Some step) × (step.surface ≡ id)
-step_at [] id e = absurd (none-some id e)
-step_at (step ∷ left) id e = (step, refl, same_Some step.surface id e)
-
--- where none is left
-pub none_at : (left : List PlainStep) → option_map (λ step. step.surface) (slice_get left 0) ≡ None → left ≡ []
-none_at [] e = refl
-none_at (step ∷ left) e = absurd (none-some step.surface (sym e))
 
 -- an entry of a map, by its key and its value
 entry_of : {A : Type 0} (es : List (ℕ × A)) (i k d : ℕ) (v : A) → i < length (keys_of es) → get_or (keys_of es) i d ≡ k → slice_get (values_of es) i ≡ Some v → slice_get es i ≡ Some (k, v)

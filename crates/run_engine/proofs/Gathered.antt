@@ -7,6 +7,7 @@ use Rattle.std.specs.Map.{keys_of}
 use Rattle.std.proofs.lemmas.Bool.{cases_Bool, eqb-true, ltb-false, ne_eqb, eqb-false}
 use Rattle.std.proofs.lemmas.Option.{none-some, same_Some, slice_get-map}
 use Rattle.std.proofs.lemmas.List.{map-append, nil_from_length}
+use Rattle.std.proofs.lemmas.Simd.{map-map}
 use Rattle.std.proofs.lemmas.List.Elements.{filter-append}
 use Rattle.std.proofs.lemmas.List.Quantifiers.{position-Some}
 use Rattle.tree_revision.specs.Script.{PlainSurface}
@@ -18,15 +19,16 @@ use Rattle.run_report.specs.Journal.{PlainMount, PlainActorPart, PlainSurfacePar
 use Rattle.run_report.specs.Machine.{SurfaceNow, actor_part_of}
 use Rattle.run_report.specs.Mounts.{Passage, passages_by, mount_along}
 use Rattle.run_report.specs.Shorthands.{passages_named}
-use Rattle.run_report.proofs.Kept.{IsRunOf, IsSurfaceKept, IsSurfaceOf}
+use Rattle.run_report.proofs.Kept.{IsSurfaceKept, IsSurfaceOf}
 use Rattle.run_report.proofs.Lists.{flat_map_push}
 use Rattle.run_report.proofs.Pairs.{all_zip_length}
 use Rattle.run_engine.specs.declared.workers.Worker.{Worker}
 use Rattle.run_engine.specs.declared.runs.Run.{Run}
-use Rattle.run_engine.specs.Now.{PlainDesk, desk_records, surface_now, worker_now, run_now}
+use Rattle.run_engine.specs.Now.{PlainDesk, desk_records, surface_now, worker_now}
 use Rattle.run_engine.specs.Run.{HasCome, IsOpen}
+use Rattle.run_actor.specs.Actors.{RunningActor, actor_now}
 use Rattle.run_actor.specs.Runs.{mounts_made_on}
-use Rattle.run_engine.specs.Ends.{AreListed, IsAlong, all_mounts_on, part_along}
+use Rattle.run_engine.specs.Ends.{AreListed, IsAlong, actors_of, mounts_of, part_along}
 use Rattle.run_engine.proofs.Turn.{kept_of}
 use Rattle.run_engine.proofs.Loops.{there_at}
 
@@ -136,22 +138,56 @@ sorted_at told before id part ids lists place mounts more distinct found count w
     (listed_with (λ x. told x ++ mounts_made_on x before) id part ids lists place (get_or ids place 0) mounts distinct (there_at ids place 0 is.0) is.1 to all))
 
 -- the mounts of an actor more
+pub mounts_next : (before : List RunningActor) (actor : RunningActor) (own : List (ℕ × MountPart)) (ids : List ℕ) (lists : List (List MountPart)) → own ≡ actor.mounts
+    → AreListed (λ id. mounts_of id before ++ mounts_made_on id own) ids lists → AreListed (λ id. mounts_of id (before ++ actor ∷ [])) ids lists
+mounts_next before actor own ids lists is all =
+    listed_same (λ id. mounts_of id before ++ mounts_made_on id own) (λ id. mounts_of id (before ++ actor ∷ []))
+    (λ id. ap (λ l. mounts_of id before ++ mounts_made_on id l) is ∙ sym (flat_map_push (λ (actor : RunningActor). mounts_made_on id actor.mounts) before actor)) ids lists all
+
+-- so of a worker more
 pub gathered_next : (before : List Worker) (worker : Worker) (own : List (ℕ × MountPart)) (ids : List ℕ) (lists : List (List MountPart)) → own ≡ worker.actor.mounts
-    → AreListed (λ id. all_mounts_on id before ++ mounts_made_on id own) ids lists → AreListed (λ id. all_mounts_on id (before ++ worker ∷ [])) ids lists
+    → AreListed (λ id. mounts_of id (actors_of before) ++ mounts_made_on id own) ids lists → AreListed (λ id. mounts_of id (actors_of (before ++ worker ∷ []))) ids lists
 gathered_next before worker own ids lists is all =
-    listed_same (λ id. all_mounts_on id before ++ mounts_made_on id own) (λ id. all_mounts_on id (before ++ worker ∷ []))
-    (λ id. ap (λ l. all_mounts_on id before ++ mounts_made_on id l) is ∙ sym (flat_map_push (λ (worker : Worker). mounts_made_on id worker.actor.mounts) before worker)) ids lists all
+    subst (λ (actors : List RunningActor). AreListed (λ id. mounts_of id actors) ids lists) (sym (map-append (λ (worker : Worker). worker.actor) before (worker ∷ [])))
+    (mounts_next (actors_of before) worker.actor own ids lists is all)
 
 -- what all actors mounted on a surface lies along the passages that their answers name
-pub gathered_along : (id : ℕ) (along : Passage → PlainMount) (n : ℕ) (workers : List Worker)
-    → ((j number : ℕ) (worker : Worker) → number ≡ n + j → slice_get workers j ≡ Some worker → mounts_made_on id worker.actor.mounts ≡ map along (passages_by id number worker.actor.answers))
-    → all_mounts_on id workers ≡ map along (flat_map (λ entry. passages_by id entry.0 entry.1.steps) (enumerate_from n (map actor_part_of (map worker_now workers))))
-gathered_along id along n [] each = refl
-gathered_along id along n (worker ∷ workers) each =
-    (λ i. each 0 n worker (omega arith) refl i
-    ++ gathered_along id along (n + 1) workers (λ j number w e at. each (suc j) number w (omega (arith, e)) at) i)
-    ∙ sym (map-append along (passages_by id n worker.actor.answers)
-    (flat_map (λ (entry : ℕ × PlainActorPart). passages_by id entry.0 entry.1.steps) (enumerate_from (n + 1) (map actor_part_of (map worker_now workers)))))
+pub mounted_along : (id : ℕ) (along : Passage → PlainMount) (n : ℕ) (actors : List RunningActor)
+    → ((j number : ℕ) (actor : RunningActor) → number ≡ n + j → slice_get actors j ≡ Some actor → mounts_made_on id actor.mounts ≡ map along (passages_by id number actor.answers))
+    → mounts_of id actors ≡ map along (flat_map (λ entry. passages_by id entry.0 entry.1.answers) (enumerate_from n actors))
+mounted_along id along n [] each = refl
+mounted_along id along n (actor ∷ actors) each =
+    (λ i. each 0 n actor (omega arith) refl i
+    ++ mounted_along id along (n + 1) actors (λ j number a e at. each (suc j) number a (omega (arith, e)) at) i)
+    ∙ sym (map-append along (passages_by id n actor.answers)
+    (flat_map (λ (entry : ℕ × RunningActor). passages_by id entry.0 entry.1.answers) (enumerate_from (n + 1) actors)))
+
+-- the passages that the parts of some actors name
+pub passages_same : (id n : ℕ) (actors : List RunningActor)
+    → flat_map (λ (entry : ℕ × PlainActorPart). passages_by id entry.0 entry.1.steps) (enumerate_from n (map (λ (actor : RunningActor). actor_part_of (actor_now actor)) actors))
+    ≡ flat_map (λ (entry : ℕ × RunningActor). passages_by id entry.0 entry.1.answers) (enumerate_from n actors)
+passages_same id n [] = refl
+passages_same id n (actor ∷ actors) = ap (λ l. passages_by id n actor.answers ++ l) (passages_same id (n + 1) actors)
+
+-- what stands at a place of what items become
+pub mapped_at : {A B : Type 0} (f : A → B) (xs : List A) (i : ℕ) (y : B) → slice_get (map f xs) i ≡ Some y → (x : A) × (slice_get xs i ≡ Some x) × (f x ≡ y)
+mapped_at f [] i y at = absurd (none-some y at)
+mapped_at f (x ∷ xs) zero y at = (x, refl, same_Some (f x) y at)
+mapped_at f (x ∷ xs) (suc i) y at = mapped_at f xs i y at
+
+-- so of the mounts of workers
+pub gathered_along : (id : ℕ) (along : Passage → PlainMount) (workers : List Worker)
+    → ((number : ℕ) (worker : Worker) → slice_get workers number ≡ Some worker → mounts_made_on id worker.actor.mounts ≡ map along (passages_by id number worker.actor.answers))
+    → mounts_of id (actors_of workers) ≡ map along (passages_named id (map actor_part_of (map worker_now workers)))
+gathered_along id along workers each =
+    mounted_along id along 0 (actors_of workers)
+    (λ j number actor e at.
+    let n : j ≡ number = omega (arith, e) in
+    let worker = mapped_at (λ (worker : Worker). worker.actor) workers j actor at in
+    subst (λ (actor : RunningActor). mounts_made_on id actor.mounts ≡ map along (passages_by id number actor.answers)) worker.2
+    (each number worker.0 (subst (λ n. slice_get workers n ≡ Some worker.0) n worker.1)))
+    ∙ ap (map along) (sym (passages_same id 0 (actors_of workers))
+    ∙ ap (passages_named id) (map-map (λ (actor : RunningActor). actor_part_of (actor_now actor)) (λ (worker : Worker). worker.actor) workers ∙ sym (map-map actor_part_of worker_now workers)))
 
 -- a surface's mounts lie along the passages that the answers of all actors name, and these lead to its base
 module _ (run : Run) (come : HasCome run) where
@@ -160,24 +196,23 @@ module _ (run : Run) (come : HasCome run) where
   named id = passages_named id (map actor_part_of (map worker_now run.workers.items))
 
   along_at : (place : ℕ) (entry : ℕ × PlainDesk) (mounts : List MountPart) → slice_get run.desks.entries place ≡ Some entry
-      → map plain_mount mounts ≡ all_mounts_on entry.0 run.workers.items → IsAlong named entry mounts
+      → map plain_mount mounts ≡ mounts_of entry.0 (actors_of run.workers.items) → IsAlong named entry mounts
   along_at place entry mounts at is =
       let kept : IsSurfaceKept come.script (map worker_now run.workers.items) (surface_now entry) =
       item_holds_at (IsSurfaceKept come.script (map worker_now run.workers.items)) (map surface_now run.desks.entries) place (surface_now entry) (kept_of run come).kept
       (slice_get-map surface_now run.desks.entries place ∙ ap (option_map surface_now) at) in
       record {
         base = kept.last;
-        mounts = is ∙ gathered_along entry.0 (mount_along entry.1.port.spine.first (desk_records entry.1)) 0 run.workers.items
-            (λ j number worker e to. let n : j ≡ number = omega (arith, e) in
-            (come.order.seated place entry number worker at (subst (λ n. slice_get run.workers.items n ≡ Some worker) n to)).mounts);
+        mounts = is ∙ gathered_along entry.0 (mount_along entry.1.port.spine.first (desk_records entry.1)) run.workers.items
+            (λ number worker to. (come.order.seated place entry number worker at to).mounts);
       }
 
   -- so do those of all
-  pub all_along : (lists : List (List MountPart)) → AreListed (λ id. all_mounts_on id run.workers.items) (keys_of run.desks.entries) lists → AllZip (IsAlong named) run.desks.entries lists
+  pub all_along : (lists : List (List MountPart)) → AreListed (λ id. mounts_of id (actors_of run.workers.items)) (keys_of run.desks.entries) lists → AllZip (IsAlong named) run.desks.entries lists
   all_along lists = from 0 run.desks.entries lists (λ j entry at. let k : j ≡ 0 + j = omega arith in subst (λ k. slice_get run.desks.entries k ≡ Some entry) k at)
     where
       from : (n : ℕ) (entries : List (ℕ × PlainDesk)) (lists : List (List MountPart)) → ((j : ℕ) (entry : ℕ × PlainDesk) → slice_get entries j ≡ Some entry → slice_get run.desks.entries (n + j) ≡ Some entry)
-          → AreListed (λ id. all_mounts_on id run.workers.items) (keys_of entries) lists → AllZip (IsAlong named) entries lists
+          → AreListed (λ id. mounts_of id (actors_of run.workers.items)) (keys_of entries) lists → AllZip (IsAlong named) entries lists
       from n [] [] there all = tt
       from n [] (mounts ∷ lists) there all = absurd all
       from n (entry ∷ entries) [] there all = absurd all
@@ -254,12 +289,11 @@ pub keys_length : {A : Type 0} (entries : List (ℕ × A)) → length (keys_of e
 keys_length [] = refl
 keys_length (entry ∷ entries) = ap suc (keys_length entries)
 
--- the actors' parts so far, and one more
-pub actors_next : (before : List Worker) (worker : Worker) (sofar all : List ActorPart) (part : ActorPart) → map plain_actor_part sofar ≡ map actor_part_of (map worker_now before)
-    → all ≡ sofar ++ part ∷ [] → plain_actor_part part ≡ actor_part_of (worker_now worker) → map plain_actor_part all ≡ map actor_part_of (map worker_now (before ++ worker ∷ []))
-actors_next before worker sofar all part was all_are own =
-    ap (map plain_actor_part) all_are ∙ map-append plain_actor_part sofar (part ∷ []) ∙ (λ i. was i ++ own i ∷ [])
-    ∙ sym (ap (map actor_part_of) (map-append worker_now before (worker ∷ [])) ∙ map-append actor_part_of (map worker_now before) (worker_now worker ∷ []))
+-- the parts of actors so far, and one more
+pub actors_next : {A : Type 0} (part_of : A → PlainActorPart) (before : List A) (item : A) (sofar all : List ActorPart) (part : ActorPart) → map plain_actor_part sofar ≡ map part_of before
+    → all ≡ sofar ++ part ∷ [] → plain_actor_part part ≡ part_of item → map plain_actor_part all ≡ map part_of (before ++ item ∷ [])
+actors_next part_of before item sofar all part was all_are own =
+    ap (map plain_actor_part) all_are ∙ map-append plain_actor_part sofar (part ∷ []) ∙ (λ i. was i ++ own i ∷ []) ∙ sym (map-append part_of before (item ∷ []))
 
 -- each list of mounts is empty before the first actor
 pub lists_begun : (ids : List ℕ) (count : ℕ) (lists : List (List MountPart)) → count ≡ length ids → lists ≡ replicate count []

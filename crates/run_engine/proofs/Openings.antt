@@ -25,7 +25,7 @@ use Rattle.run_engine.specs.Opening.{AreOpenings, IsHistory, AreHistories, IsMou
 use Rattle.run_engine.proofs.Loops.{there_at, map_next, push_cases}
 
 -- the commits that are left, of one actor more
-commits_left-push : (id : ℕ) (actors : List ActorNow) (actor : ActorNow)
+pub commits_left-push : (id : ℕ) (actors : List ActorNow) (actor : ActorNow)
     → commits_left id (actors ++ actor ∷ []) ≡ commits_left id actors + count_by (commits_on id) actor.left
 commits_left-push id [] actor = omega arith
 commits_left-push id (first ∷ actors) actor = omega (arith, commits_left-push id actors actor)
@@ -69,7 +69,7 @@ keys_take zero entries = refl
 keys_take (suc n) [] = refl
 keys_take (suc n) (e ∷ entries) = ap (λ l. e.0 ∷ l) (keys_take n entries)
 
-keys_at : {A : Type 0} (entries : List (ℕ × A)) (i : ℕ) (e : ℕ × A) → slice_get entries i ≡ Some e → slice_get (keys_of entries) i ≡ Some e.0
+pub keys_at : {A : Type 0} (entries : List (ℕ × A)) (i : ℕ) (e : ℕ × A) → slice_get entries i ≡ Some e → slice_get (keys_of entries) i ≡ Some e.0
 keys_at [] i e at = absurd (none-some e at)
 keys_at (x ∷ entries) zero e at = ap (λ (x : ℕ × _). Some x.0) (same_Some x e at)
 keys_at (x ∷ entries) (suc i) e at = keys_at entries i e at
@@ -86,7 +86,7 @@ is_new all entries n e d at same =
     (subst (AllByRecursion (λ key. nat_eq e.0 key ≡ false)) (sym (same ∙ keys_take n all)) (differs_before (keys_of all) n e.0 d (keys_at all n e at))))
 
 -- the first items of a list, and the next one
-take_push : {A : Type 0} (xs : List A) (n m : ℕ) (x : A) → m ≡ suc n → slice_get xs n ≡ Some x → take m xs ≡ take n xs ++ x ∷ []
+pub take_push : {A : Type 0} (xs : List A) (n m : ℕ) (x : A) → m ≡ suc n → slice_get xs n ≡ Some x → take m xs ≡ take n xs ++ x ∷ []
 take_push [] n m x s at = absurd (none-some x at)
 take_push (y ∷ ys) n zero x s at = absurd (omega (arith, s))
 take_push (y ∷ ys) zero (suc m) x s at =

@@ -29,7 +29,7 @@ use Rattle.run_engine.specs.Turns.{MayTurn, IsTurn}
 use Rattle.run_engine.specs.Run.{commits_left, AreWithin, IsOpen, HasRoom, IsSeated, AreInOrder}
 use Rattle.run_actor.specs.Runs.{commits_on}
 use Rattle.run_actor.proofs.Acts.{holding_lasts}
-use Rattle.run_engine.proofs.Quiet.{StaysElsewhere, one_fewer, event_elsewhere}
+use Rattle.run_actor.proofs.Quiet.{StaysElsewhere, one_fewer, event_elsewhere}
 use Rattle.run_engine.proofs.Changes.{mounts-more, within-more, IsChange, change}
 use Rattle.commit_core.proofs.Steps.{ready_later}
 

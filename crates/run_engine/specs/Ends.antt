@@ -12,23 +12,32 @@ use Rattle.run_report.specs.declared.journal.SurfacePart.{SurfacePart}
 use Rattle.run_report.specs.Journal.{PlainMount, PlainSurfacePart, plain_mount, plain_surface_part}
 use Rattle.run_report.specs.Mounts.{Passage, closed, last_to, mount_along}
 use Rattle.run_report.specs.Machine.{SurfaceNow}
+use Rattle.run_actor.specs.Actors.{RunningActor}
 use Rattle.run_actor.specs.Event.{base_of}
 use Rattle.run_engine.specs.declared.workers.Worker.{Worker}
 use Rattle.run_engine.specs.Now.{PlainDesk, desk_records, surface_now}
 use Rattle.run_actor.specs.Runs.{mounts_made_on}
 
--- a surface's part of the journal, with mounts along these passages and the closing one
-abbrev pub part_along : List Passage → SurfaceNow → PlainSurfacePart
-part_along passages surface = record {
-  id = surface.id;
-  records = surface.records;
-  mounts = map (mount_along surface.first surface.records) (closed surface.records passages);
-  last = host_tree_at surface.first surface.records (mountable_of surface.records);
+-- the part of the journal of a surface of that id and first size over these records, with mounts along these passages and the closing one
+abbrev pub part_over : (id : ℕ) → Size → List PlainRecord → List Passage → PlainSurfacePart
+part_over id first records passages = record {
+  id = id;
+  records = records;
+  mounts = map (mount_along first records) (closed records passages);
+  last = host_tree_at first records (mountable_of records);
 }
 
+-- a surface's part of the journal, with mounts along these passages and the closing one
+abbrev pub part_along : List Passage → SurfaceNow → PlainSurfacePart
+part_along passages surface = part_over surface.id surface.first surface.records passages
+
 -- the mounts of some actors on the surface of that id
-abbrev pub all_mounts_on : (id : ℕ) → List Worker → List PlainMount
-all_mounts_on id workers = flat_map (λ worker. mounts_made_on id worker.actor.mounts) workers
+abbrev pub mounts_of : (id : ℕ) → List RunningActor → List PlainMount
+mounts_of id actors = flat_map (λ actor. mounts_made_on id actor.mounts) actors
+
+-- the actors of some workers
+abbrev pub actors_of : List Worker → List RunningActor
+actors_of workers = map (λ worker. worker.actor) workers
 
 -- lists of mounts, one for each surface of these ids in their order: each has the mounts that are told of its id
 abbrev pub AreListed : (told : ℕ → List PlainMount) → (ids : List ℕ) → (lists : List (List MountPart)) → Type 0
@@ -44,6 +53,13 @@ abbrev pub AreClosed : KeptRevision → (base : SettledRevision) → (mounts all
 AreClosed front base mounts all =
     (first : Size) (records : List PlainRecord) (passages : List Passage) → StandsFor first front records → IsBaseIn first records base → last_to passages ≡ base.number
     → map plain_mount mounts ≡ map (mount_along first records) passages → map plain_mount all ≡ map (mount_along first records) (closed records passages)
+
+-- a part of the journal is that of a surface of that id with these records: where the front stands for them and the mounts lie along passages that lead to the base, it is the part along these
+pub record IsClosedPart (id : ℕ) (records : List PlainRecord) (front : KeptRevision) (base : SettledRevision) (mounts : List MountPart) (part : SurfacePart) : Type 0 where
+  pub id_is : part.id ≡ id
+  pub records_are : (plain_surface_part part).records ≡ records
+  pub along : (first : Size) (passages : List Passage) → StandsFor first front records → IsBaseIn first records base → last_to passages ≡ base.number
+      → map plain_mount mounts ≡ map (mount_along first records) passages → plain_surface_part part ≡ part_over id first records passages
 
 -- a part of the journal is that of a surface of that id with these mounts: where they lie along passages that lead to its base, it is the part along these
 abbrev pub IsPartOf : (id : ℕ) → PlainDesk → List MountPart → SurfacePart → Type 0

@@ -5,3 +5,5 @@ pub mod Run
 pub mod Ends
 pub mod Opening
 pub mod Workers
+pub mod Spines
+pub mod Jobs

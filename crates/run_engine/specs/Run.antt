@@ -1,12 +1,10 @@
 -- How far a run has come.
-use Rattle.std.specs.Prelude.{◌≡◌, ℕ, ◌+◌, ◌≤◌, List, [], ◌∷◌, length, map, filter, count_by, Bool, true, false, ◌&&◌, nat_eq, slice_get, Some}
+use Rattle.std.specs.Prelude.{◌≡◌, ℕ, ◌+◌, ◌≤◌, List, [], ◌∷◌, length, map, count_by, slice_get, Some}
 use Rattle.std.specs.List.{AllByRecursion, fold}
-use Rattle.tree_revision.specs.Script.{PlainAct, commit, PlainStep, PlainScript}
+use Rattle.tree_revision.specs.Script.{PlainScript}
 use Rattle.tree_revision.specs.Sound.{IsSoundScript}
 use Rattle.commit_core.specs.declared.plain_parts.PlainPass.{PlainPass}
 use Rattle.mount_coordinator.specs.Mounted.{PlainCoordinator, IsBaseIn}
-use Rattle.run_report.specs.declared.journal.MountPart.{MountPart}
-use Rattle.run_report.specs.Journal.{PlainMount, plain_mount}
 use Rattle.run_report.specs.Mounts.{Passage, passages_by, mount_along}
 use Rattle.run_report.specs.Shorthands.{number_mounted}
 use Rattle.run_report.specs.Machine.{ActorNow, after_turn, run_of}

@@ -3,7 +3,8 @@
 ghost use Rattle.std.specs.Prelude.{IfOk};
 ghost use Rattle.mount_coordinator.specs.Answers.{MayFinish};
 ghost use Rattle.run_engine.specs.Run.{IsOpen};
-ghost use Rattle.run_engine.specs.Ends.{AreClosed, IsPartOf};
+ghost use Rattle.commit_core.specs.Plain.{plain_records};
+ghost use Rattle.run_engine.specs.Ends.{AreClosed, IsClosedPart, IsPartOf};
 
 use crate::parts::mount_part;
 use commit_core::PlainPort;
@@ -13,7 +14,7 @@ use run_actor::Desk;
 use run_report::{MountPart, SurfacePart};
 use sqlite_items::Items;
 use std::alloc::{AllocError, Global};
-use tree_revision::Revision;
+use tree_revision::{Record, Revision};
 use view_flatten::flatten;
 
 /// After the last event: the part of the journal of a surface of that id, with these mounts and the
@@ -33,6 +34,23 @@ pub(crate) fn finish_desk(
     };
     let (spine, _) = port.parts();
     let (records, front) = spine.into_parts();
+    close_surface(alloc, id, records, front, coordinator, mounts)
+}
+
+/// The part of the journal of a surface of that id with these records, whose newest revision is the
+/// front: with these mounts and the closing one, and the views of what may be mounted. Nothing is
+/// copied.
+pub(crate) fn close_surface(
+    alloc: Global,
+    id: u32,
+    records: Items<Record>,
+    front: Revision,
+    coordinator: Coordinator,
+    mounts: Items<MountPart>,
+) -> Result<SurfacePart, AllocError>
+    requires { MayFinish coordinator front }
+    ensures { IfOk result (IsClosedPart id (plain_records records) front coordinator.base mounts) }
+{
     let mounts = with_closing(alloc, coordinator, front.share()?, mounts)?;
     let next = front.mountable()?;
     let HostTree { views: last } = flatten(alloc, next.forest())?;

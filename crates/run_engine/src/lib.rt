@@ -10,12 +10,17 @@ ghost use Rattle.run_report.specs.Named.{NamesItsActors};
 ghost use Rattle.run_engine.specs.Numbers.{IsWithinNumbers};
 
 mod desks;
+mod gathering;
+mod jobs;
 mod opening;
 mod parts;
 mod runs;
+mod spines;
 #[cfg(test)]
 mod tests;
+mod thread_run;
 mod threads;
+mod work;
 mod workers;
 
 pub use run_actor::{Actor, Desk, Event, FreeGate, Gate};
@@ -25,7 +30,8 @@ use runs::Run;
 use script_read::Script;
 use shadow_node::Made;
 use std::alloc::{AllocError, Global};
-pub use threads::{Worked, run_threads, run_workers};
+pub use thread_run::run_threads;
+pub use threads::{Worked, run_workers};
 
 /// Runs a script by its list of turns, and answers the journal of the run. It waits for nobody.
 ///

@@ -38,7 +38,7 @@ pub(crate) fn openings_of(
 }
 
 /// How many of these steps are commits on the surface of that id.
-fn count_commits(steps: &[Step], id: u32) -> u64
+pub(crate) fn count_commits(steps: &[Step], id: u32) -> u64
     requires { length steps.now < 2 ^ 31 }
     ensures { result ≡ count_by (commits_on id) (map plain_step steps.now) }
 {
@@ -52,10 +52,11 @@ fn count_commits(steps: &[Step], id: u32) -> u64
 }
 
 /// How many commits all actors have on the surface of that id.
-fn count_all_commits(actors: &[ActorPlan], id: u32) -> u64
+pub(crate) fn count_all_commits(actors: &[ActorPlan], id: u32) -> u64
     requires count { length actors.now < 2 ^ 31 }
     requires calls { All (λ actor. length actor.steps < 2 ^ 31) (map plain_actor actors.now) }
-    ensures { result ≡ commits_left id (map begun (map plain_actor actors.now)) }
+    ensures count { result ≡ commits_left id (map begun (map plain_actor actors.now)) }
+    ensures small { result < 2 ^ 62 }
 {
     let mut count = 0;
     for actor in actors {

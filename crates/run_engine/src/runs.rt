@@ -132,7 +132,7 @@ impl<'a> Run<'a> {
 }
 
 /// An empty list of mounts for each of so many surfaces.
-fn no_mounts(alloc: Global, count: usize) -> Result<Vec<Items<MountPart>>, AllocError>
+pub(crate) fn no_mounts(alloc: Global, count: usize) -> Result<Vec<Items<MountPart>>, AllocError>
     ensures { IfOk result (λ lists. lists.items ≡ replicate count []) }
 {
     let mut lists = Vec::with_capacity(alloc, count)?;
@@ -143,18 +143,18 @@ fn no_mounts(alloc: Global, count: usize) -> Result<Vec<Items<MountPart>>, Alloc
 }
 
 /// Puts the mounts of an actor behind those of their surfaces, whose lists stand in their order.
-fn sort_out(
-    desks: &IndexMap<u32, Desk<PlainPort>>,
+pub(crate) fn sort_out<S>(
+    surfaces: &IndexMap<u32, S>,
     lists: &mut Vec<Items<MountPart>>,
     own: Vec<(u32, MountPart)>,
 ) -> Result<(), AllocError>
-    requires ids { IsDistinct nat_eq (keys desks.now) }
-    requires lists { length lists.old.items ≡ length (keys desks.now) }
-    ensures count { OnOk result (length lists.new.items ≡ length (keys desks.now)) }
-    ensures joined { OnOk result (HaveJoined own.items (keys desks.now) lists.old.items lists.new.items) }
+    requires ids { IsDistinct nat_eq (keys surfaces.now) }
+    requires lists { length lists.old.items ≡ length (keys surfaces.now) }
+    ensures count { OnOk result (length lists.new.items ≡ length (keys surfaces.now)) }
+    ensures joined { OnOk result (HaveJoined own.items (keys surfaces.now) lists.old.items lists.new.items) }
 {
     for (id, part) in own {
-        if let Some(place) = desks.get_index_of(&id) {
+        if let Some(place) = surfaces.get_index_of(&id) {
             lists[place].push(part)?;
         }
     }

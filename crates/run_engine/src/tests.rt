@@ -1,11 +1,18 @@
 //! Lists of turns of two actors, each with its answers written by hand.
 
-use crate::run_turns;
+ghost use Rattle.std.specs.Prelude.{IfOk};
+ghost use Rattle.tree_revision.specs.Sound.{IsSoundScript};
+ghost use Rattle.script_read.specs.Plain.{plain_script};
+ghost use Rattle.run_engine.specs.Numbers.{IsWithinNumbers};
+
+use crate::{FreeGate, run_threads, run_turns};
 use run_report::Journal;
-use script_read::read_script;
+use script_read::{Script, read_script};
 use shadow_node::Made;
 use std::alloc::{AllocError, Global};
+use std::sync::Wait;
 use std::test::Fail;
+use std::thread::Threads;
 use tree_revision::Answer;
 
 /// One actor completes a text and then holds, the other changes the size and then mounts.
@@ -95,16 +102,32 @@ const CASES: [Case; 10] = [
     },
 ];
 
-/// The journal of the script with these turns.
-fn journal_of(alloc: Global, made: &mut Made, turns: &[u8]) -> Result<Journal, AllocError> {
+/// The script with these turns.
+fn script_with(alloc: Global, turns: &[u8]) -> Result<Script, AllocError>
+    ensures sound { IfOk result (λ script. IsSoundScript (plain_script script)) }
+    ensures numbers { IfOk result (λ script. IsWithinNumbers (plain_script script)) }
+{
     let mut text = Vec::new(alloc);
     text.extend_from_slice(SCRIPT)?;
     text.extend_from_slice(turns)?;
     text.extend_from_slice(b"]}")?;
-    let Ok(script) = read_script(alloc, &text) else {
-        return Err(AllocError);
-    };
-    run_turns(alloc, made, &script)
+    match read_script(alloc, &text) {
+        Ok(script) => Ok(script),
+        Err(_) => Err(AllocError),
+    }
+}
+
+/// The journal of the script with these turns.
+fn journal_of(alloc: Global, made: &mut Made, turns: &[u8]) -> Result<Journal, AllocError> {
+    run_turns(alloc, made, &script_with(alloc, turns)?)
+}
+
+/// The journal of the script on threads.
+fn journal_on_threads(
+    rt: &(impl Threads + Wait + Sync),
+    alloc: Global,
+) -> Result<Journal, AllocError> {
+    run_threads(rt, alloc, &script_with(alloc, b"")?, &FreeGate)
 }
 
 /// The answer of a step.
@@ -138,5 +161,16 @@ fn each_list_of_turns_has_its_answers(rt: HostRuntime) -> Result<(), Fail> {
             Some(Answer::Mounted { base: 0, to })
         );
     }
+    Ok(())
+}
+
+#[test]
+fn a_run_on_threads_admits_each_commit(rt: HostRuntime) -> Result<(), Fail> {
+    let journal = journal_on_threads(&rt, rt.alloc())?;
+    for surface in journal.surfaces.as_slice() {
+        assert_eq!(rt; surface.records.len(), 2);
+    }
+    assert_eq!(rt; journal.surfaces.len(), 1);
+    assert_eq!(rt; journal.actors.len(), 2);
     Ok(())
 }

@@ -3,17 +3,17 @@
 ghost use Rattle.std.specs.Prelude.{IfOk};
 ghost use Rattle.tree_revision.specs.Sound.{IsSoundScript};
 ghost use Rattle.script_read.specs.Plain.{plain_script};
-ghost use Rattle.run_report.specs.Journal.{plain_journal};
-ghost use Rattle.run_report.specs.Legal.{IsLegal};
-ghost use Rattle.run_report.specs.Named.{NamesItsActors};
 ghost use Rattle.run_engine.specs.Numbers.{IsWithinNumbers};
 ghost use Rattle.run_engine.specs.Workers.{HaveWorked, MayWork};
 
+use crate::gathering::gather;
+use crate::jobs::{coordinators_of, jobs_of};
+use crate::opening::openings_of;
+use crate::work::run_jobs;
 use commit_spine::{Spine, SpinePass};
 use indexmap::IndexMap;
 use mount_coordinator::Coordinator;
 use run_actor::{Actor, Gate};
-use run_report::Journal;
 use script_read::Script;
 use std::alloc::{AllocError, Global};
 use std::sync::Wait;
@@ -46,23 +46,11 @@ pub fn run_workers<'a, R: Threads + Wait + Sync, G: Gate + Sync>(
     requires passes { MayWork (plain_script script.now) spines.now.entries passes.old.entries }
     ensures worked { IfOk result (λ worked. HaveWorked (plain_script script.now) passes.old.entries passes.new.entries worked.actors.items worked.mounts.items) }
 {
-    Err(AllocError)
-}
-
-/// Runs a script on threads, and answers the journal of the run. Its list of turns is not used.
-///
-/// The script has fewer than 2^31 actors, and each of them fewer than 2^31 steps. What is said holds if
-/// it returns.
-pub fn run_threads<R: Threads + Wait + Sync, G: Gate + Sync>(
-    rt: &R,
-    alloc: Global,
-    script: &Script,
-    gate: &G,
-) -> Result<Journal, AllocError>
-    requires sound { IsSoundScript (plain_script script.now) }
-    requires numbers { IsWithinNumbers (plain_script script.now) }
-    ensures legal { IfOk result (λ journal. IsLegal (plain_script script.now) (plain_journal journal)) }
-    ensures names { IfOk result (λ journal. NamesItsActors (plain_journal journal)) }
-{
-    Err(AllocError)
+    let first = openings_of(alloc, script.surfaces.as_slice())?;
+    let mounts = coordinators_of(alloc, &first)?;
+    let plans = script.actors.as_slice();
+    let actors = Vec::with_capacity(alloc, plans.len())?;
+    let mut jobs = jobs_of(alloc, plans, &first, spines, passes)?;
+    run_jobs(rt, alloc, &mut jobs, spines, gate)?;
+    gather(spines, passes, jobs, mounts, actors)
 }

@@ -24,6 +24,6 @@ loop-opening-preserved c =
     (all_zip_push (IsHistory actors) (take c.loop-opening.opening-index c.args.first.now) c.loop-opening.spines.items entry c.in_ok-start.field-0
     c.loop-opening.invariant (record {
       first = c.in_ok-start.ensures.first ∙ ap (λ (r : KeptRevision). r.newest.size) c.in_ok-share.ensures;
-      room = c.in_ok-start.ensures.room ∙ c.count_all_commits-room.ensures;
+      room = c.in_ok-start.ensures.room ∙ c.count_all_commits-room.ensures.count;
       records = c.in_ok-start.ensures.records;
     })))

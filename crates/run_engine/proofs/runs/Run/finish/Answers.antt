@@ -1,10 +1,11 @@
 use Rattle.std.proofs.Common.{◌≡◌, List, map, arith, ap, sym, subst, ◌∙◌}
+use Rattle.std.proofs.lemmas.Simd.{map-map}
 use Rattle.indexmap.specs.IndexMap.{keys}
 use Rattle.run_report.specs.Journal.{plain_actor_part}
 use Rattle.run_report.specs.Machine.{actor_part_of}
 use Rattle.run_engine.specs.declared.workers.Worker.{Worker}
 use Rattle.run_engine.specs.Now.{worker_now}
-use Rattle.run_engine.specs.Ends.{AreListed, all_mounts_on}
+use Rattle.run_engine.specs.Ends.{AreListed, actors_of, mounts_of}
 use Rattle.run_engine.proofs.Finishing.{yielded_next}
 use Rattle.run_engine.proofs.Gathered.{lists_begun, keys_length, ids_apart, all_open, all_along, named, actors_next, gathered_next, all_came}
 use Rattle.run_engine.proofs.runs.Run.finish.Goals as goal
@@ -26,10 +27,10 @@ pub loop-worker-preserved : goal.loop-worker-preserved
 loop-worker-preserved c = (
   yielded_next c.args.self.workers.items c.loop-worker.yielded c.loop-worker.worker-iterator.rest.items c.next.new.self.rest.items c.in-Some.worker c.loop-worker.invariant.0
       c.in-Some.ensures.steps.0,
-  actors_next c.loop-worker.yielded c.in-Some.worker c.loop-worker.actors c.push.new.self c.in_ok-part.part c.loop-worker.invariant.1 c.in_ok-push.ensures.ok c.in_ok-part.ensures.part,
+  actors_next (λ worker. actor_part_of (worker_now worker)) c.loop-worker.yielded c.in-Some.worker c.loop-worker.actors c.push.new.self c.in_ok-part.part c.loop-worker.invariant.1 c.in_ok-push.ensures.ok c.in_ok-part.ensures.part,
   c.in_ok-sort_out.ensures.count,
   gathered_next c.loop-worker.yielded c.in-Some.worker c.in_ok-part.own.items (keys c.args.self.desks) c.sort_out.new.lists.items c.in_ok-part.ensures.mounts
-      (c.in_ok-sort_out.ensures.joined (λ id. all_mounts_on id c.loop-worker.yielded) c.loop-worker.invariant.3),
+      (c.in_ok-sort_out.ensures.joined (λ id. mounts_of id (actors_of c.loop-worker.yielded)) c.loop-worker.invariant.3),
 )
 
 pub surface_parts-requires-clause-mounted : goal.surface_parts-requires-clause-mounted
@@ -40,9 +41,9 @@ returns c =
     let whole : c.args.self.workers.items ≡ c.loop-worker.yielded =
     all_came c.args.self.workers.items c.loop-worker.yielded c.loop-worker.worker-iterator.rest.items c.loop-worker.invariant.0
     (omega (arith, c.loop-worker.worker-iterator.rest.ok.0, c.in-None.ensures.steps.0)) in
-    let listed : AreListed (λ id. all_mounts_on id c.args.self.workers.items) (keys c.args.self.desks) c.loop-worker.mounts.items =
-    subst (λ (workers : List Worker). AreListed (λ id. all_mounts_on id workers) (keys c.args.self.desks) c.loop-worker.mounts.items) (sym whole) c.loop-worker.invariant.3 in
+    let listed : AreListed (λ id. mounts_of id (actors_of c.args.self.workers.items)) (keys c.args.self.desks) c.loop-worker.mounts.items =
+    subst (λ (workers : List Worker). AreListed (λ id. mounts_of id (actors_of workers)) (keys c.args.self.desks) c.loop-worker.mounts.items) (sym whole) c.loop-worker.invariant.3 in
     λ i. record {
       surfaces = c.in_ok-surfaces.ensures (named c.args.self c.requires) (all_along c.args.self c.requires c.loop-worker.mounts.items listed) i;
-      actors = (c.loop-worker.invariant.1 ∙ ap (λ (l : List Worker). map actor_part_of (map worker_now l)) (sym whole)) i;
+      actors = (c.loop-worker.invariant.1 ∙ ap (λ (l : List Worker). map (λ worker. actor_part_of (worker_now worker)) l) (sym whole) ∙ sym (map-map actor_part_of worker_now c.args.self.workers.items)) i;
     }

@@ -7,7 +7,8 @@ use Rattle.tree_revision.specs.Script.{PlainStep}
 use Rattle.run_engine.specs.declared.workers.Worker.{Worker}
 use Rattle.run_engine.proofs.Loops.{at_item}
 use Rattle.run_engine.proofs.Turn.{has_rested, may_take_turn, has_turned}
-use Rattle.run_engine.proofs.Found.{step_at, entry_at, none_found, set_entry, with_ok}
+use Rattle.run_actor.proofs.StepsLeft.{step_at}
+use Rattle.run_engine.proofs.Found.{entry_at, none_found, set_entry, with_ok}
 use Rattle.run_engine.proofs.runs.Run.turn.Goals as goal
 
 pub returns-in_default-get_index_of : goal.returns-in_default-get_index_of
