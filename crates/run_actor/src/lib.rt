@@ -5,8 +5,10 @@ mod actors;
 mod desks;
 mod gate;
 mod run;
+mod sending;
 
 pub use actors::{Actor, Event};
 pub use desks::Desk;
 pub use gate::{FreeGate, Gate};
 pub use run::run_actor;
+pub use sending::actors_are_sent;
