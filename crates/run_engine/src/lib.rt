@@ -15,6 +15,7 @@ mod jobs;
 mod opening;
 mod parts;
 mod runs;
+mod sending;
 mod spines;
 #[cfg(test)]
 mod tests;

@@ -18,7 +18,7 @@ use sqlite_items::Items;
 use std::alloc::{AllocError, Global};
 
 /// Each surface's spine, with room for all commits there and a seat for each actor and one more, and
-/// a pass that has them all. Both are by the surfaces' ids, in the script's order.
+/// a pass that has all shares and permits. Both are by the surfaces' ids, in the script's order.
 pub(crate) fn open_spines(
     alloc: Global,
     script: &Script,

@@ -32,7 +32,7 @@ pub struct Worked<'a> {
 /// at the end.
 ///
 /// A worker that meets want of memory ends, and the others run to their ends. After a refusal the
-/// events so far stand.
+/// events so far stand, and passes that were split may be gone with their shares.
 pub fn run_workers<'a, R: Threads + Wait + Sync, G: Gate + Sync>(
     rt: &R,
     alloc: Global,

@@ -7,7 +7,8 @@ ghost use Rattle.run_engine.specs.Jobs.{AreDesksOf, AreOfSpines, AreRun, HasRunJ
 
 use crate::jobs::Job;
 use crate::opening::add_new;
-use commit_spine::{Spine, SpinePass, SpinePort};
+use crate::sending::{jobs_are_sent, needs_sync};
+use commit_spine::{Spine, SpinePass, SpinePort, spines_are_shared};
 use indexmap::IndexMap;
 use mount_coordinator::Coordinator;
 use run_actor::{Desk, Gate, run_actor};
@@ -129,6 +130,9 @@ fn run_each<R: Threads + Wait + Sync, G: Gate + Sync>(
     ensures count { length jobs.new ≡ length jobs.old }
     ensures each { (i : ℕ) (d : Job) → i < length jobs.old → HasWorkedOff spines.now.entries (slice_index_or jobs.old i d) (slice_index_or jobs.new i d) }
 {
+    jobs_are_sent();
+    spines_are_shared();
+    needs_sync::<IndexMap<u32, Spine>>(None);
     thread::for_each_mut(
         rt,
         jobs,
@@ -150,9 +154,5 @@ pub(crate) fn run_jobs<R: Threads + Wait + Sync, G: Gate + Sync>(
     ensures { OnOk result (AreRun spines.now.entries jobs.old jobs.new) }
 {
     run_each(rt, alloc, jobs, spines, gate);
-    if some_short(jobs) {
-        Err(AllocError)
-    } else {
-        Ok(())
-    }
+    if some_short(jobs) { Err(AllocError) } else { Ok(()) }
 }
