@@ -154,5 +154,9 @@ pub(crate) fn run_jobs<R: Threads + Wait + Sync, G: Gate + Sync>(
     ensures { OnOk result (AreRun spines.now.entries jobs.old jobs.new) }
 {
     run_each(rt, alloc, jobs, spines, gate);
-    if some_short(jobs) { Err(AllocError) } else { Ok(()) }
+    if some_short(jobs) {
+        Err(AllocError)
+    } else {
+        Ok(())
+    }
 }
