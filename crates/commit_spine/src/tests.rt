@@ -1,12 +1,17 @@
 //! Commits on one spine, by one pass and by two, on one thread.
 
-ghost use Rattle.std.specs.Prelude.{◌≡◌, ◌≤◌, ◌<◌, ◌^◌, []};
+ghost use Rattle.std.specs.Prelude.{◌≡◌, ◌≤◌, ◌<◌, ◌^◌, [], IfErr};
+ghost use Rattle.std.specs.Coded.{codes};
+ghost use Rattle.atomic_table.specs.Seated.{table_id_coded};
 ghost use Rattle.tree_revision.specs.Records.{plain_op};
 ghost use Rattle.tree_revision.specs.InRange.{IsOpInRange};
 ghost use Rattle.tree_revision.specs.Stands.{StandsFor};
+ghost use Rattle.tree_revision.proofs.OneProof.{StandsFor-prop};
 ghost use Rattle.commit_spine.specs.Passes.{fresh_pass};
-ghost use Rattle.commit_spine.specs.Calls.{IsPassOf};
+ghost use Rattle.commit_spine.specs.Calls.{spine_id, IsPassOf};
 
+use self::Call::{Look, Number, Offer};
+use self::Move::{A, B};
 use crate::{Spine, SpinePass};
 use shadow_frame::Size;
 use shadow_node::Made;
@@ -67,6 +72,7 @@ fn offer(
     ensures spine { pass.new.spine ≡ pass.old.spine }
     ensures mark { pass.new.kept.mark ≡ pass.old.kept.mark }
     ensures shares { pass.new.kept.shares ≡ pass.old.kept.shares }
+    ensures behind { IfErr result (λ _. pass.new.kept.seen ≡ pass.old.kept.seen) }
 {
     assert!(rt; pass.permits() > 0);
     assert!(rt; front.number() < 100);
@@ -87,44 +93,245 @@ fn offer(
     }
 }
 
-/// Looks, and offers that change.
-fn commit(
+/// A holder of a pass, beside the revision that stands for what the pass has seen. It holds the
+/// first revision.
+#[derive(Drop)]
+struct Holder<'a> {
+    spine: &'a Spine,
+    held: &'a Revision,
+    pass: SpinePass,
+    front: Revision,
+    ghost one_spine: { pass.spine ≡ spine_id spine.now } by { Prim.hlevel (table_id_coded, codes) },
+    ghost opening: { StandsFor pass.kept.mark.first held.now [] } by { StandsFor-prop pass.kept.mark.first held.now [] },
+    ghost stands: { StandsFor pass.kept.mark.first front pass.kept.seen } by { StandsFor-prop pass.kept.mark.first front pass.kept.seen },
+}
+
+impl<'a> Holder<'a> {
+    /// The holder of that pass, which looks.
+    fn start(
+        rt: &impl Abort,
+        spine: &'a Spine,
+        held: &'a Revision,
+        mut pass: SpinePass,
+    ) -> Holder<'a>
+        requires spine { IsPassOf spine.now pass }
+        requires held { StandsFor pass.kept.mark.first held.now [] }
+        ensures spine { result.pass.spine ≡ pass.spine }
+        ensures mark { result.pass.kept.mark ≡ pass.kept.mark }
+    {
+        let front = look(rt, spine, &mut pass);
+        Holder {
+            spine,
+            held,
+            pass,
+            front,
+        }
+    }
+
+    /// Looks again.
+    fn look(&mut self, rt: &impl Abort)
+        ensures spine { self.new.pass.spine ≡ self.old.pass.spine }
+        ensures mark { self.new.pass.kept.mark ≡ self.old.pass.kept.mark }
+    {
+        self.front = look(rt, self.spine, &mut self.pass);
+    }
+
+    /// Offers that change, and looks again behind an admitted one.
+    fn offer(&mut self, rt: &(impl Abort + Threads), alloc: Global, op: Op) -> Result<u64, u64>
+        requires op { IsOpInRange (plain_op op) }
+        ensures spine { self.new.pass.spine ≡ self.old.pass.spine }
+        ensures mark { self.new.pass.kept.mark ≡ self.old.pass.kept.mark }
+    {
+        let number = offer(
+            rt,
+            alloc,
+            self.spine,
+            &mut self.pass,
+            &self.front,
+            self.held,
+            op,
+        )?;
+        self.front = look(rt, self.spine, &mut self.pass);
+        Ok(number)
+    }
+
+    /// Makes that call. Its offers are of one change.
+    fn call(&mut self, rt: &(impl Abort + Threads), alloc: Global, call: &Call) {
+        match call {
+            Call::Look => self.look(rt),
+            Call::Offer => {
+                let _ = self.offer(rt, alloc, Op::Stop);
+            }
+            Call::Number => {
+                let _ = self.number();
+            }
+        }
+    }
+
+    /// The number of records.
+    fn number(&mut self) -> u64
+        ensures spine { self.new.pass.spine ≡ self.old.pass.spine }
+        ensures mark { self.new.pass.kept.mark ≡ self.old.pass.kept.mark }
+    {
+        self.spine.number(&mut self.pass)
+    }
+}
+
+/// Splits the pass of a new history, commits once by each half, the second one behind the first,
+/// and joins them.
+fn two_commits(
     rt: &(impl Abort + Threads),
     alloc: Global,
     spine: &Spine,
-    pass: &mut SpinePass,
     held: &Revision,
-    op: Op,
-) -> Result<u64, u64>
-    requires spine { IsPassOf spine.now pass.old }
-    requires held { StandsFor pass.old.kept.mark.first held.now [] }
-    requires op { IsOpInRange (plain_op op) }
-    ensures spine { pass.new.spine ≡ pass.old.spine }
-    ensures mark { pass.new.kept.mark ≡ pass.old.kept.mark }
-    ensures shares { pass.new.kept.shares ≡ pass.old.kept.shares }
+    mut pass: SpinePass,
+) -> SpinePass
+    requires spine { IsPassOf spine.now pass }
+    requires held { StandsFor pass.kept.mark.first held.now [] }
+    requires shares { 2 ≤ pass.kept.shares }
+    requires permits { 1 ≤ pass.kept.permits }
+    ensures spine { IsPassOf spine.now result }
+    ensures mark { result.kept.mark ≡ pass.kept.mark }
 {
-    let front = look(rt, spine, pass);
-    offer(rt, alloc, spine, pass, &front, held, op)
+    let other = spine.split(&mut pass, 1);
+    let mut a = Holder::start(rt, spine, held, pass);
+    let mut b = Holder::start(rt, spine, held, other);
+    assert_eq!(rt; (a.front.number(), b.front.number()), (0, 0));
+    assert_eq!(rt; a.offer(rt, alloc, Op::Stop), Ok(1));
+    assert_eq!(rt; b.number(), 1);
+    assert_eq!(rt; b.offer(rt, alloc, Op::Suspend), Err(1));
+    b.look(rt);
+    assert_eq!(rt; b.front.number(), 1);
+    assert_eq!(rt; b.offer(rt, alloc, Op::Suspend), Ok(2));
+    let Holder { mut pass, .. } = a;
+    let Holder { pass: other, .. } = b;
+    spine.join(&mut pass, other);
+    pass
 }
 
 #[test]
-fn a_record_fills_its_room(rt: HostRuntime) {
+fn two_passes_have_one_history(rt: HostRuntime) {
     let alloc = rt.alloc();
-    let (spine, mut pass, held) = opened(&rt, alloc, 1, 1);
-    let admitted = commit(&rt, alloc, &spine, &mut pass, &held, Op::Stop);
-    assert!(rt; admitted == Ok(1));
-    assert!(rt; pass.permits() == 0);
-    assert!(rt; spine.close(pass).records.len() == 1);
+    let (spine, pass, held) = opened(&rt, alloc, 2, 2);
+    let pass = two_commits(&rt, alloc, &spine, &held, pass);
+    assert_eq!(rt; (pass.permits(), pass.busy(), pass.shares()), (0, 0, 2));
+    let records = spine.close(pass).records;
+    assert_eq!(rt; records.len(), 2);
+    assert!(rt; matches!(*records[0].op, Op::Stop));
+    assert!(rt; matches!(*records[1].op, Op::Suspend));
+}
+
+/// A call of a holder.
+enum Call {
+    Look,
+    Offer,
+    Number,
+}
+
+/// Which of two holders has the next call.
+enum Move {
+    A(Call),
+    B(Call),
+}
+
+/// A list of calls of two holders, and how many records there are at its end.
+struct Case {
+    moves: &'static [Move],
+    admitted: u64,
+}
+
+const CASES: [Case; 10] = [
+    Case {
+        moves: &[],
+        admitted: 0,
+    },
+    Case {
+        moves: &[A(Look), B(Look), A(Number), B(Number)],
+        admitted: 0,
+    },
+    Case {
+        moves: &[A(Offer), A(Offer), A(Offer)],
+        admitted: 3,
+    },
+    Case {
+        moves: &[A(Offer), B(Offer)],
+        admitted: 1,
+    },
+    Case {
+        moves: &[A(Offer), B(Number), B(Offer)],
+        admitted: 1,
+    },
+    Case {
+        moves: &[A(Offer), B(Look), B(Offer)],
+        admitted: 2,
+    },
+    Case {
+        moves: &[B(Offer), A(Offer), A(Offer), A(Look), A(Offer)],
+        admitted: 2,
+    },
+    Case {
+        moves: &[A(Offer), B(Offer), B(Look), B(Offer), A(Offer), A(Look)],
+        admitted: 2,
+    },
+    Case {
+        moves: &[
+            A(Offer),
+            B(Look),
+            B(Offer),
+            A(Look),
+            A(Offer),
+            B(Look),
+            B(Offer),
+            A(Number),
+        ],
+        admitted: 4,
+    },
+    Case {
+        moves: &[
+            B(Offer),
+            B(Offer),
+            A(Offer),
+            A(Number),
+            A(Look),
+            A(Offer),
+            B(Offer),
+            A(Offer),
+        ],
+        admitted: 4,
+    },
+];
+
+/// Makes these calls on one thread, and answers how many records there are at their end. No call
+/// is busy.
+fn number_after(rt: &(impl Abort + Threads), alloc: Global, moves: &[Move]) -> u64 {
+    let (spine, mut pass, held) = opened(rt, alloc, 8, 2);
+    let other = spine.split(&mut pass, 4);
+    let mut a = Holder::start(rt, &spine, &held, pass);
+    let mut b = Holder::start(rt, &spine, &held, other);
+    for next in moves {
+        match next {
+            A(call) => a.call(rt, alloc, call),
+            B(call) => b.call(rt, alloc, call),
+        }
+    }
+    assert_eq!(rt; (a.pass.busy(), b.pass.busy()), (0, 0));
+    a.number()
 }
 
 #[test]
-fn a_second_pass_commits_after_the_first(rt: HostRuntime) {
+fn no_list_of_calls_on_one_thread_is_busy(rt: HostRuntime) {
+    for case in &CASES {
+        assert_eq!(rt; number_after(&rt, rt.alloc(), case.moves), case.admitted);
+    }
+}
+
+#[test]
+fn a_room_of_three_has_three_permits(rt: HostRuntime) {
     let alloc = rt.alloc();
-    let (spine, mut a, held) = opened(&rt, alloc, 2, 2);
-    let mut b = spine.split(&mut a, 1);
-    let first = commit(&rt, alloc, &spine, &mut a, &held, Op::Stop);
-    assert!(rt; first == Ok(1));
-    assert!(rt; spine.number(&mut b) == 1);
-    let second = commit(&rt, alloc, &spine, &mut b, &held, Op::Suspend);
-    assert!(rt; second == Ok(2));
+    let (spine, pass, held) = opened(&rt, alloc, 3, 1);
+    let mut holder = Holder::start(&rt, &spine, &held, pass);
+    for number in 1..4 {
+        assert_eq!(rt; holder.offer(&rt, alloc, Op::Stop), Ok(number));
+    }
+    assert_eq!(rt; holder.pass.permits(), 0);
 }
