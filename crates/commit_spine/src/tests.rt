@@ -45,7 +45,6 @@ fn look(rt: &impl Abort, spine: &Spine, pass: &mut SpinePass) -> Revision
     requires spine { IsPassOf spine.now pass.old }
     ensures spine { pass.new.spine ≡ pass.old.spine }
     ensures mark { pass.new.kept.mark ≡ pass.old.kept.mark }
-    ensures shares { pass.new.kept.shares ≡ pass.old.kept.shares }
     ensures stands { StandsFor pass.new.kept.mark.first result pass.new.kept.seen }
 {
     match spine.try_look(pass) {
@@ -71,7 +70,6 @@ fn offer(
     requires op { IsOpInRange (plain_op op) }
     ensures spine { pass.new.spine ≡ pass.old.spine }
     ensures mark { pass.new.kept.mark ≡ pass.old.kept.mark }
-    ensures shares { pass.new.kept.shares ≡ pass.old.kept.shares }
     ensures behind { IfErr result (λ _. pass.new.kept.seen ≡ pass.old.kept.seen) }
 {
     assert!(rt; pass.permits() > 0);

@@ -3,7 +3,7 @@ use Rattle.shadow_frame.specs.declared.Size.{Size}
 use Rattle.tree_revision.specs.declared.record.Op.TheVariants.{Stop}
 use Rattle.tree_revision.specs.Records.{plain_op, plain_record}
 use Rattle.tree_revision.specs.Stands.{StandsFor}
-use Rattle.commit_core.specs.PlainPorts.{records_of, told_of}
+use Rattle.commit_core.specs.PlainPorts.{told_of}
 use Rattle.commit_core.proofs.tests.commit.Goals as goal
 
 pub try_offer-requires-clause-stands : goal.try_offer-requires-clause-stands
