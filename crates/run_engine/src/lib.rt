@@ -10,6 +10,8 @@ ghost use Rattle.run_report.specs.Named.{NamesItsActors};
 ghost use Rattle.run_engine.specs.Numbers.{IsWithinNumbers};
 
 mod desks;
+#[cfg(test)]
+mod gate_tests;
 mod gathering;
 mod jobs;
 mod opening;

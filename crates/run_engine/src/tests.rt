@@ -102,6 +102,17 @@ const CASES: [Case; 10] = [
     },
 ];
 
+/// The script of this text.
+pub(crate) fn script_of(alloc: Global, text: &[u8]) -> Result<Script, AllocError>
+    ensures sound { IfOk result (λ script. IsSoundScript (plain_script script)) }
+    ensures numbers { IfOk result (λ script. IsWithinNumbers (plain_script script)) }
+{
+    match read_script(alloc, text) {
+        Ok(script) => Ok(script),
+        Err(_) => Err(AllocError),
+    }
+}
+
 /// The script with these turns.
 fn script_with(alloc: Global, turns: &[u8]) -> Result<Script, AllocError>
     ensures sound { IfOk result (λ script. IsSoundScript (plain_script script)) }
@@ -111,10 +122,7 @@ fn script_with(alloc: Global, turns: &[u8]) -> Result<Script, AllocError>
     text.extend_from_slice(SCRIPT)?;
     text.extend_from_slice(turns)?;
     text.extend_from_slice(b"]}")?;
-    match read_script(alloc, &text) {
-        Ok(script) => Ok(script),
-        Err(_) => Err(AllocError),
-    }
+    script_of(alloc, &text)
 }
 
 /// The journal of the script with these turns.
