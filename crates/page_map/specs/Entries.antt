@@ -1,0 +1,14 @@
+-- Entries of a finite map: tags with their values.
+use Rattle.std.specs.Prelude.{◌≢◌, ℕ, List, [], ◌∷◌}
+use Rattle.std.specs.List.{AllPairs}
+use Rattle.std.specs.Ordering.{nat_cmp}
+use Rattle.std.specs.FinMap.{FinMap, insert}
+
+-- the map with each entry of the list set
+abbrev pub all_added : {V : Type 0} → FinMap nat_cmp V → List (ℕ × V) → FinMap nat_cmp V
+all_added map [] = map
+all_added map (entry ∷ entries) = all_added (insert map entry.0 entry.1) entries
+
+-- no tag stands twice in the list
+abbrev pub TagsDiffer : {V : Type 0} → List (ℕ × V) → Type 0
+TagsDiffer = AllPairs (λ one other. one.0 ≢ other.0)

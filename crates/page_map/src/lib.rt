@@ -1,0 +1,11 @@
+//! Finite maps from tag to value, in shared pages.
+#![tactic(auto)]
+
+mod map;
+mod page;
+mod share;
+#[cfg(test)]
+mod tests;
+
+pub use map::PageMap;
+pub use share::Share;
