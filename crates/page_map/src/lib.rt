@@ -8,4 +8,4 @@ mod share;
 mod tests;
 
 pub use map::PageMap;
-pub use share::Share;
+pub use share::{Joint, Share};

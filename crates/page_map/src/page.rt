@@ -93,10 +93,7 @@ pub(crate) fn value_of<V>(entries: &[(u32, V)], tag: u32) -> Option<&V>
 }
 
 /// Shares each of the entries, after those that are there.
-fn share_entries<V: Share>(
-    all: &mut Vec<(u32, V)>,
-    entries: &[(u32, V)],
-) -> Result<(), AllocError>
+fn share_entries<V: Share>(all: &mut Vec<(u32, V)>, entries: &[(u32, V)]) -> Result<(), AllocError>
     ensures { OnOk result (all.new.items ≡ all.old.items ++ entries.now) }
 {
     for entry in entries {
@@ -123,10 +120,11 @@ fn merged<V: Share>(
     let mut all = Vec::new(alloc);
     let mut rest = entries;
     for entry in new {
-        let (below, from) = rest.split_at(place_of(rest, entry.0));
+        let tag = entry.0;
+        let (below, from) = rest.split_at(place_of(rest, tag));
         share_entries(&mut all, below)?;
-        all.push((entry.0, entry.1.share()?))?;
-        rest = without(from, entry.0);
+        all.push((tag, entry.1.share()?))?;
+        rest = without(from, tag);
     }
     share_entries(&mut all, rest)?;
     Ok(all)
@@ -194,10 +192,7 @@ pub(crate) fn count_of<V>(pages: &[PageRef<V>]) -> usize
 }
 
 /// Shares each of the pages, after those that are there.
-fn share_pages<V: Share>(
-    all: &mut Vec<PageRef<V>>,
-    pages: &[PageRef<V>],
-) -> Result<(), AllocError>
+fn share_pages<V: Share>(all: &mut Vec<PageRef<V>>, pages: &[PageRef<V>]) -> Result<(), AllocError>
     requires all { ArePages all.old.items }
     requires pages { ArePages pages.now }
     ensures joined { OnOk result (joined all.new.items ≡ joined all.old.items ++ joined pages.now) }
