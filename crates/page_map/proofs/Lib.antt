@@ -4,5 +4,6 @@ pub mod Rising
 pub mod Joined
 pub mod Merged
 pub mod Parts
+pub mod Put
 pub mod Taken
 pub mod Sorted

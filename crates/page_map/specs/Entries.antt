@@ -1,5 +1,5 @@
 -- Entries of a finite map: tags with their values.
-use Rattle.std.specs.Prelude.{◌≢◌, ℕ, List, [], ◌∷◌}
+use Rattle.std.specs.Prelude.{◌≡◌, ◌≢◌, ℕ, List, [], ◌∷◌, Option, None, Some, Result, Ok, Err}
 use Rattle.std.specs.List.{AllPairs}
 use Rattle.std.specs.Ordering.{nat_cmp}
 use Rattle.std.specs.FinMap.{FinMap, insert}
@@ -12,3 +12,9 @@ all_added map (entry ∷ entries) = all_added (insert map entry.0 entry.1) entri
 -- no tag stands twice in the list
 abbrev pub TagsDiffer : {V : Type 0} → List (ℕ × V) → Type 0
 TagsDiffer = AllPairs (λ one other. one.0 ≢ other.0)
+
+-- what a call has done that sets an entry of a map, or hands the value back; want of memory changes nothing
+abbrev pub IsPutIn : {V E : Type 0} → (old new : FinMap nat_cmp V) (tag : ℕ) (value : V) → Result (Option V) E → Type 0
+IsPutIn old new tag value (Ok None) = new ≡ insert old tag value
+IsPutIn old new tag value (Ok (Some back)) = (new ≡ old) × (back ≡ value)
+IsPutIn old new tag value (Err e) = new ≡ old

@@ -1,5 +1,5 @@
 -- Pages: how a finite map from tag to value is kept.
-use Rattle.std.specs.Prelude.{◌≡◌, ℕ, ◌+◌, ◌-◌, ◌<◌, ◌≤◌, ◌^◌, List, [], ◌∷◌, ◌++◌, length, Option, None, Some}
+use Rattle.std.specs.Prelude.{◌≡◌, ℕ, ◌+◌, ◌-◌, ◌<◌, ◌≤◌, ◌^◌, List, [], ◌∷◌, ◌++◌, length, Option, None, Some, Result, Ok, Err}
 use Rattle.std.specs.FinMap.{FinMap, from_sorted, put}
 use Rattle.std.specs.Ordering.{nat_cmp}
 use Rattle.std.specs.declared.sync.Arc.{Arc}
@@ -86,3 +86,15 @@ pub record IsParted {V : Type 0} (pages : List (Shared V)) (tag : ℕ) (before :
 -- the tag is above some tag of the pages, or the same: each number that is below all of theirs is below it
 abbrev pub Reaches : {V : Type 0} → List (Shared V) → ℕ → Type 0
 Reaches pages tag = (low : ℕ) → AreAbove low (joined pages) → low < tag
+
+-- the entries of a list are in that many pages: the same entries in their order, and as few pages
+pub record IsCopy {V : Type 0} (old new : List (Shared V)) : Type 0 where
+  pub joined : joined new ≡ joined old
+  pub are_pages : ArePages new
+  pub few : AreFew old → AreFew new
+
+-- what a call has done that sets an entry in place, or hands the value back; want of memory changes nothing
+abbrev pub IsPut : {V E : Type 0} → (old new : List (ℕ × V)) (tag : ℕ) (value : V) → Result (Option V) E → Type 0
+IsPut old new tag value (Ok None) = new ≡ put nat_cmp tag value old
+IsPut old new tag value (Ok (Some back)) = (new ≡ old) × (back ≡ value)
+IsPut old new tag value (Err e) = new ≡ old

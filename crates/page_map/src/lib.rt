@@ -2,6 +2,7 @@
 #![tactic(auto)]
 
 mod map;
+mod owned;
 mod page;
 mod share;
 #[cfg(test)]

@@ -3,11 +3,12 @@
 ghost use Rattle.std.specs.Prelude.{◌≡◌, ◌+◌, ◌*◌, ◌≤◌, ◌==◌, ◌^◌, length, IfOk, OnOk, OnErr};
 ghost use Rattle.std.specs.Option.{option_copied};
 ghost use Rattle.std.specs.FinMap as map;
-ghost use Rattle.page_map.specs.Entries.{TagsDiffer, all_added};
+ghost use Rattle.page_map.specs.Entries.{IsPutIn, TagsDiffer, all_added};
 ghost use Rattle.page_map.specs.Pages.{AreFew, ArePages, IsTableOf, joined};
 ghost use Rattle.page_map.specs.Rising.{AreBelow, IsRising};
 
 use crate::Share;
+use crate::owned::put_in;
 use crate::page::{PageRef, count_of, pages_with, parted, value_of};
 use std::alloc::{AllocError, Global};
 use std::marker::Model;
@@ -134,6 +135,33 @@ impl<V: Share> PageMap<V> {
         let mut count = 0;
         let pages = pages_with(alloc, &mut count, self.list(), &new)?;
         Ok((PageMap::of_pages(alloc, pages)?, count))
+    }
+
+    /// Sets an entry in place. Only a page that has another owner is copied, and a full one is parted
+    /// in two.
+    ///
+    /// For want of memory the map is as before.
+    pub fn insert(&mut self, alloc: Global, tag: u32, value: V) -> Result<(), AllocError>
+        ensures map { OnOk result (self.new ≡ map.insert self.old tag value) }
+        ensures refused { OnErr result (self.new ≡ self.old) }
+    {
+        if let Some(value) = self.put(alloc, tag, value)? {
+            let mut one = Vec::with_capacity(alloc, 1)?;
+            one.push((tag, value))?;
+            let (made, _) = self.with_all(alloc, one)?;
+            *self = made;
+        }
+        Ok(())
+    }
+
+    /// Sets an entry where its page has room for it, and else hands the value back.
+    fn put(&mut self, alloc: Global, tag: u32, value: V) -> Result<Option<V>, AllocError>
+        ensures { IsPutIn self.old self.new tag value result }
+    {
+        match &mut self.pages {
+            Some(pages) => put_in(alloc, pages, &mut self.count, tag, value),
+            None => Ok(Some(value)),
+        }
     }
 
     /// The map of these pages.

@@ -1,11 +1,11 @@
 //! Pages of entries.
 
-ghost use Rattle.std.specs.Prelude.{◌≡◌, ℕ, ◌+◌, ◌*◌, ◌<◌, ◌≤◌, ◌^◌, ◌++◌, ◌∷◌, List, length, take, drop, IfOk, OnOk, OnErr};
+ghost use Rattle.std.specs.Prelude.{◌≡◌, ℕ, ◌+◌, ◌*◌, ◌<◌, ◌≤◌, ◌^◌, ◌++◌, ◌∷◌, List, length, get_or, take, drop, IsTrue, ◌↔◌, IfOk, OnOk, OnErr};
 ghost use Rattle.std.specs.Option.{option_copied};
 ghost use Rattle.std.specs.FinMap.{find, put};
 ghost use Rattle.std.specs.Ordering.{nat_cmp};
 ghost use Rattle.counts.specs.Raised.{raised};
-ghost use Rattle.page_map.specs.Pages.{AreFew, AreHalfFull, ArePages, IsPage, IsParted, IsWithin, Reaches, all_put, first_tag, joined};
+ghost use Rattle.page_map.specs.Pages.{AreFew, AreHalfFull, ArePages, IsPage, IsParted, IsPut, IsWithin, Reaches, all_put, first_tag, joined};
 ghost use Rattle.page_map.specs.Rising.{AreAbove, AreBelow, AreFrom, Each, IsRising};
 
 use crate::Share;
@@ -36,7 +36,7 @@ impl<V> Model for Page<V> {
 
 impl<V> Page<V> {
     /// The entries in the order of their tags.
-    fn entries(&self) -> &[(u32, V)]
+    pub(crate) fn entries(&self) -> &[(u32, V)]
         ensures entries { result.now ≡ self.now }
         ensures page { IsPage self.now }
     {
@@ -44,7 +44,7 @@ impl<V> Page<V> {
     }
 
     /// The lowest tag.
-    fn first_tag(&self) -> u32
+    pub(crate) fn first_tag(&self) -> u32
         ensures { result ≡ first_tag self.now }
     {
         self.entries[0].0
@@ -52,8 +52,24 @@ impl<V> Page<V> {
 }
 
 impl<V: Share> Page<V> {
+    /// Sets an entry, and counts it where its tag had none; or hands the value back where there is
+    /// no room for it.
+    pub(crate) fn put(
+        &mut self,
+        count: &mut usize,
+        tag: u32,
+        value: V,
+    ) -> Result<Option<V>, AllocError>
+        requires { count.old ≤ 2 ^ 32 }
+        ensures page { IsPage self.new }
+        ensures put { IsPut self.old self.new tag value result }
+        ensures counted { count.new + length self.old ≡ count.old + length self.new }
+    {
+        put_entry(&mut self.entries, count, tag, value)
+    }
+
     /// Makes a page, and counts its entries. There is no other way to a page.
-    fn make(
+    pub(crate) fn make(
         alloc: Global,
         count: &mut usize,
         entries: Vec<(u32, V)>,
@@ -71,13 +87,51 @@ impl<V: Share> Page<V> {
 }
 
 /// How many of the entries have tags below this one.
-fn place_of<V>(entries: &[(u32, V)], tag: u32) -> usize
+pub(crate) fn place_of<V>(entries: &[(u32, V)], tag: u32) -> usize
     requires { IsRising entries.now }
     ensures place { result ≤ length entries.now }
     ensures below { AreBelow tag (take result entries.now) }
     ensures rest { AreFrom tag (drop result entries.now) }
 {
     entries.partition_point(|entry| entry.0 < tag)
+}
+
+/// Sets an entry among those of a page, and counts it where its tag had none; or hands the value
+/// back where there is no room for it.
+fn put_entry<V: Share>(
+    entries: &mut Vec<(u32, V)>,
+    count: &mut usize,
+    tag: u32,
+    value: V,
+) -> Result<Option<V>, AllocError>
+    requires page { IsPage entries.old.items }
+    requires count { count.old ≤ 2 ^ 32 }
+    ensures page { IsPage entries.new.items }
+    ensures put { IsPut entries.old.items entries.new.items tag value result }
+    ensures counted { count.new + length entries.old.items ≡ count.old + length entries.new.items }
+{
+    let at = place_of(entries, tag);
+    if has_tag(entries, at, tag) {
+        entries[at].1 = value;
+        return Ok(None);
+    }
+    if entries.len() == 64 {
+        return Ok(Some(value));
+    }
+    entries.insert(at, (tag, value))?;
+    *count += 1;
+    Ok(None)
+}
+
+/// Whether the entry at that place has the tag.
+fn has_tag<V>(entries: &[(u32, V)], at: usize, tag: u32) -> bool
+    requires { at ≤ length entries.now }
+    ensures { IsTrue result ↔ ((at < length entries.now) × ((entry : ℕ × V) → (get_or entries.now at entry).0 ≡ tag)) }
+{
+    match entries.get(at) {
+        Some(entry) => entry.0 == tag,
+        None => false,
+    }
 }
 
 /// The value of a tag.
@@ -192,7 +246,10 @@ pub(crate) fn count_of<V>(pages: &[PageRef<V>]) -> usize
 }
 
 /// Shares each of the pages, after those that are there.
-fn share_pages<V: Share>(all: &mut Vec<PageRef<V>>, pages: &[PageRef<V>]) -> Result<(), AllocError>
+pub(crate) fn share_pages<V: Share>(
+    all: &mut Vec<PageRef<V>>,
+    pages: &[PageRef<V>],
+) -> Result<(), AllocError>
     requires all { ArePages all.old.items }
     requires pages { ArePages pages.now }
     ensures joined { OnOk result (joined all.new.items ≡ joined all.old.items ++ joined pages.now) }
@@ -277,7 +334,7 @@ fn push_shared<V: Share>(
 }
 
 /// Copies of the entries.
-fn shared_entries<V: Share>(
+pub(crate) fn shared_entries<V: Share>(
     alloc: Global,
     entries: &[(u32, V)],
 ) -> Result<Vec<(u32, V)>, AllocError>
