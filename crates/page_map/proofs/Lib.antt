@@ -1,4 +1,6 @@
+pub mod Around
 pub mod Counts
+pub mod Cut
 pub mod Each
 pub mod Rising
 pub mod Joined

@@ -97,7 +97,7 @@ module _ {V : Type 0} where
           length-append old.value (joined (drop (at + 1) pages)),
         )
 
-    table_set : (counted : ℕ) → IsPage new.value → (2 ≤ length pages → 32 ≤ length new.value) → IsRising (joined (slice_set pages at new)) → AreBelow (2 ^ 32) (joined (slice_set pages at new)) → counted + length old.value ≡ count + length new.value → IsTable (slice_set pages at new) counted
+    pub table_set : (counted : ℕ) → IsPage new.value → (2 ≤ length pages → 32 ≤ length new.value) → IsRising (joined (slice_set pages at new)) → AreBelow (2 ^ 32) (joined (slice_set pages at new)) → counted + length old.value ≡ count + length new.value → IsTable (slice_set pages at new) counted
     table_set counted page wide rises in_range is = record {
       are_pages = each_set (λ page. IsPage page.value) pages at new table.are_pages page;
       few = λ many. let two : 2 ≤ length pages = omega (arith, many, length-set pages at new) in each_set (λ page. 32 ≤ length page.value) pages at new (table.few two) (wide two);
@@ -106,7 +106,7 @@ module _ {V : Type 0} where
       counted = omega (arith, is, sizes, table.counted);
     }
 
-    half : 2 ≤ length pages → 32 ≤ length old.value
+    pub half : 2 ≤ length pages → 32 ≤ length old.value
     half two = parted.half_full (table.few two) (omega arith)
 
     module _ (v : V) (small : tag < 2 ^ 32) (counted : ℕ) (page : IsPage new.value) (is_count : counted + length old.value ≡ count + length new.value) where

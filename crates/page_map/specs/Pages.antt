@@ -1,7 +1,8 @@
 -- Pages: how a finite map from tag to value is kept.
-use Rattle.std.specs.Prelude.{◌≡◌, ℕ, ◌+◌, ◌-◌, ◌<◌, ◌≤◌, ◌^◌, List, [], ◌∷◌, ◌++◌, length, Option, None, Some, Result, Ok, Err}
+use Rattle.std.specs.Prelude.{Bool, true, false, not, ◌≡◌, ℕ, ◌+◌, ◌-◌, ◌<◌, ◌≤◌, ◌^◌, List, [], ◌∷◌, ◌++◌, length, Option, None, Some, Result, Ok, Err}
 use Rattle.std.specs.FinMap.{FinMap, from_sorted, put}
-use Rattle.std.specs.Ordering.{nat_cmp}
+use Rattle.std.specs.FinMap.Entries.{where_key}
+use Rattle.std.specs.Ordering.{nat_cmp, eq_by_cmp}
 use Rattle.std.specs.declared.sync.Arc.{Arc}
 use Rattle.std.specs.declared.vec.Vec.{Vec}
 use Rattle.std.specs.declared.alloc.Global.{Global}
@@ -78,7 +79,7 @@ pub record IsParted {V : Type 0} (pages : List (Shared V)) (tag : ℕ) (before :
   pub before_pages : ArePages before
   pub after_pages : ArePages after
   pub has_room : length here ≤ 64
-  pub others : length before + length after ≤ length pages - 1
+  pub others : length before + length after ≡ length pages - 1
   pub before_half_full : AreHalfFull pages → AreHalfFull before
   pub after_half_full : AreHalfFull pages → AreHalfFull after
   pub half_full : AreHalfFull pages → 1 ≤ length pages → 32 ≤ length here
@@ -98,3 +99,31 @@ abbrev pub IsPut : {V E : Type 0} → (old new : List (ℕ × V)) (tag : ℕ) (v
 IsPut old new tag value (Ok None) = new ≡ put nat_cmp tag value old
 IsPut old new tag value (Ok (Some back)) = (new ≡ old) × (back ≡ value)
 IsPut old new tag value (Err e) = new ≡ old
+
+-- the entries but the one of that tag
+abbrev pub cut : {V : Type 0} → ℕ → List (ℕ × V) → List (ℕ × V)
+cut tag = where_key nat_cmp (λ other. not (eq_by_cmp nat_cmp tag other))
+
+-- the entry of a tag is taken out, or nothing is changed
+abbrev pub IsCutWhere : {V : Type 0} → (old new : List (ℕ × V)) (tag : ℕ) → Bool → Type 0
+IsCutWhere old new tag true = new ≡ cut tag old
+IsCutWhere old new tag false = new ≡ old
+
+-- what a call has done that takes an entry out in place where it may; want of memory changes nothing
+abbrev pub IsCut : {V E : Type 0} → (old new : List (ℕ × V)) (tag : ℕ) → Result Bool E → Type 0
+IsCut old new tag (Ok done) = IsCutWhere old new tag done
+IsCut old new tag (Err e) = new ≡ old
+
+-- pages parted round the one that a tag belongs in, with the entries of that page between those of one neighbour
+pub record IsAround {V : Type 0} (pages : List (Shared V)) (tag : ℕ) (before : List (Shared V)) (low here high : List (ℕ × V)) (after : List (Shared V)) : Type 0 where
+  pub whole : joined pages ≡ joined before ++ (low ++ (here ++ (high ++ joined after)))
+  pub below : AreBelow tag (joined before ++ low)
+  pub above : AreAbove tag (high ++ joined after)
+  pub before_pages : ArePages before
+  pub after_pages : ArePages after
+  pub has_room : length here ≤ 64
+  pub before_half_full : 2 ≤ length pages → AreHalfFull before
+  pub after_half_full : 2 ≤ length pages → AreHalfFull after
+  pub half_full : 2 ≤ length pages → 32 ≤ length here
+  pub neighbour_half_full : 2 ≤ length pages → 32 ≤ length low + length high
+  pub alone : length pages ≤ 1 → length before + length low + length high + length after ≡ 0

@@ -7,6 +7,7 @@ mod page;
 mod share;
 #[cfg(test)]
 mod tests;
+mod thin;
 
 pub use map::PageMap;
 pub use share::{Joint, Share};

@@ -3,13 +3,14 @@
 ghost use Rattle.std.specs.Prelude.{◌≡◌, ◌+◌, ◌*◌, ◌≤◌, ◌==◌, ◌^◌, length, IfOk, OnOk, OnErr};
 ghost use Rattle.std.specs.Option.{option_copied};
 ghost use Rattle.std.specs.FinMap as map;
-ghost use Rattle.page_map.specs.Entries.{IsPutIn, TagsDiffer, all_added};
+ghost use Rattle.page_map.specs.Entries.{IsCutFrom, IsPutIn, TagsDiffer, all_added};
 ghost use Rattle.page_map.specs.Pages.{AreFew, ArePages, IsTableOf, joined};
 ghost use Rattle.page_map.specs.Rising.{AreBelow, IsRising};
 
 use crate::Share;
-use crate::owned::put_in;
+use crate::owned::{cut_in, put_in};
 use crate::page::{PageRef, count_of, pages_with, parted, value_of};
+use crate::thin::pages_without;
 use std::alloc::{AllocError, Global};
 use std::marker::Model;
 use std::sync::Arc;
@@ -162,6 +163,45 @@ impl<V: Share> PageMap<V> {
             Some(pages) => put_in(alloc, pages, &mut self.count, tag, value),
             None => Ok(Some(value)),
         }
+    }
+
+    /// Takes an entry out in place, and answers its value. Only a page that has another owner is
+    /// copied, and one that would be less than half full is joined with a neighbour.
+    ///
+    /// For want of memory the map is as before.
+    pub fn remove(&mut self, alloc: Global, tag: u32) -> Result<Option<V>, AllocError>
+        ensures value { IfOk result (λ taken. taken ≡ map.get self.old tag) }
+        ensures map { OnOk result (self.new ≡ map.remove self.old tag) }
+        ensures refused { OnErr result (self.new ≡ self.old) }
+    {
+        let value = match self.get(tag) {
+            Some(value) => value.share()?,
+            None => return Ok(None),
+        };
+        if !self.cut(alloc, tag)? {
+            let rest = self.without(alloc, tag)?;
+            *self = rest;
+        }
+        Ok(Some(value))
+    }
+
+    /// Takes an entry out where its page stays half full or is the only one.
+    fn cut(&mut self, alloc: Global, tag: u32) -> Result<bool, AllocError>
+        ensures { IsCutFrom self.old self.new tag result }
+    {
+        match &mut self.pages {
+            Some(pages) => cut_in(alloc, pages, &mut self.count, tag),
+            None => Ok(false),
+        }
+    }
+
+    /// The map without the entry of that tag: its page is joined with a neighbour, and all others
+    /// are shared.
+    fn without(&self, alloc: Global, tag: u32) -> Result<PageMap<V>, AllocError>
+        ensures { IfOk result (λ rest. rest ≡ map.remove self.now tag) }
+    {
+        let pages = pages_without(alloc, self.list(), tag)?;
+        PageMap::of_pages(alloc, pages)
     }
 
     /// The map of these pages.

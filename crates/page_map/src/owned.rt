@@ -1,7 +1,7 @@
 //! Changes in place: a page, or the list of them, is copied only where it has another owner.
 
 ghost use Rattle.std.specs.Prelude.{◌≡◌, ◌+◌, ◌<◌, ◌≤◌, ◌^◌, length, get_or, take, drop, OnOk};
-ghost use Rattle.page_map.specs.Pages.{ArePages, IsCopy, IsPage, IsParted, IsPut, IsTable, Shared, joined};
+ghost use Rattle.page_map.specs.Pages.{ArePages, IsCopy, IsCut, IsPage, IsParted, IsPut, IsTable, Shared, joined};
 ghost use Rattle.page_map.specs.Rising.{IsRising};
 
 use crate::Share;
@@ -103,6 +103,74 @@ pub(crate) fn put_in<V: Share>(
     own_list(alloc, pages)?;
     match Arc::get_mut(pages) {
         Some(pages) => put_in_list(alloc, pages, count, tag, value),
+        None => Err(AllocError),
+    }
+}
+
+/// Takes an entry out of its page, where at least that many are left.
+fn cut_in_page<V: Share>(
+    alloc: Global,
+    page: &mut PageRef<V>,
+    count: &mut usize,
+    tag: u32,
+    least: usize,
+) -> Result<bool, AllocError>
+    requires page { IsPage page.old.value }
+    requires least { 1 ≤ least }
+    requires count { length page.old.value ≤ count.old }
+    ensures page { IsPage page.new.value }
+    ensures cut { IsCut page.old.value page.new.value tag result }
+    ensures counted { count.new + length page.old.value ≡ count.old + length page.new.value }
+    ensures enough { least ≤ length page.old.value → least ≤ length page.new.value }
+{
+    own_page(alloc, page)?;
+    match Arc::get_mut(page) {
+        Some(page) => Ok(page.cut(count, tag, least)),
+        None => Err(AllocError),
+    }
+}
+
+/// How many entries each page has to hold: 32 where there are two or more.
+fn least_of<V>(pages: &[PageRef<V>]) -> usize
+    ensures least { 1 ≤ result }
+    ensures many { 2 ≤ length pages.now → result ≡ 32 }
+{
+    if pages.len() <= 1 { 1 } else { 32 }
+}
+
+/// Takes an entry out of the page that it belongs in, where that stays half full or is the only one.
+fn cut_in_list<V: Share>(
+    alloc: Global,
+    pages: &mut Vec<PageRef<V>>,
+    count: &mut usize,
+    tag: u32,
+) -> Result<bool, AllocError>
+    requires { IsTable pages.old.items count.old }
+    ensures table { IsTable pages.new.items count.new }
+    ensures cut { IsCut (joined pages.old.items) (joined pages.new.items) tag result }
+{
+    if pages.is_empty() {
+        return Ok(false);
+    }
+    let least = least_of(pages);
+    let at = page_place(pages, tag);
+    cut_in_page(alloc, &mut pages[at], count, tag, least)
+}
+
+/// Takes an entry out in place, where its page stays half full or is the only one.
+pub(crate) fn cut_in<V: Share>(
+    alloc: Global,
+    pages: &mut Arc<Vec<PageRef<V>>>,
+    count: &mut usize,
+    tag: u32,
+) -> Result<bool, AllocError>
+    requires { IsTable pages.old.value.items count.old }
+    ensures table { IsTable pages.new.value.items count.new }
+    ensures cut { IsCut (joined pages.old.value.items) (joined pages.new.value.items) tag result }
+{
+    own_list(alloc, pages)?;
+    match Arc::get_mut(pages) {
+        Some(pages) => cut_in_list(alloc, pages, count, tag),
         None => Err(AllocError),
     }
 }

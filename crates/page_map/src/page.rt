@@ -5,7 +5,7 @@ ghost use Rattle.std.specs.Option.{option_copied};
 ghost use Rattle.std.specs.FinMap.{find, put};
 ghost use Rattle.std.specs.Ordering.{nat_cmp};
 ghost use Rattle.counts.specs.Raised.{raised};
-ghost use Rattle.page_map.specs.Pages.{AreFew, AreHalfFull, ArePages, IsPage, IsParted, IsPut, IsWithin, Reaches, all_put, first_tag, joined};
+ghost use Rattle.page_map.specs.Pages.{AreFew, AreHalfFull, ArePages, IsCutWhere, IsPage, IsParted, IsPut, IsWithin, Reaches, all_put, cut, first_tag, joined};
 ghost use Rattle.page_map.specs.Rising.{AreAbove, AreBelow, AreFrom, Each, IsRising};
 
 use crate::Share;
@@ -68,6 +68,18 @@ impl<V: Share> Page<V> {
         put_entry(&mut self.entries, count, tag, value)
     }
 
+    /// Takes an entry out, and counts it, where at least that many are left.
+    pub(crate) fn cut(&mut self, count: &mut usize, tag: u32, least: usize) -> bool
+        requires least { 1 ≤ least }
+        requires count { length self.old ≤ count.old }
+        ensures page { IsPage self.new }
+        ensures cut { IsCutWhere self.old self.new tag result }
+        ensures counted { count.new + length self.old ≡ count.old + length self.new }
+        ensures enough { least ≤ length self.old → least ≤ length self.new }
+    {
+        cut_entry(&mut self.entries, count, tag, least)
+    }
+
     /// Makes a page, and counts its entries. There is no other way to a page.
     pub(crate) fn make(
         alloc: Global,
@@ -123,6 +135,33 @@ fn put_entry<V: Share>(
     Ok(None)
 }
 
+/// Takes an entry out of those of a page, and counts it, where at least that many are left.
+fn cut_entry<V: Share>(
+    entries: &mut Vec<(u32, V)>,
+    count: &mut usize,
+    tag: u32,
+    least: usize,
+) -> bool
+    requires page { IsPage entries.old.items }
+    requires least { 1 ≤ least }
+    requires count { length entries.old.items ≤ count.old }
+    ensures page { IsPage entries.new.items }
+    ensures cut { IsCutWhere entries.old.items entries.new.items tag result }
+    ensures counted { count.new + length entries.old.items ≡ count.old + length entries.new.items }
+    ensures enough { least ≤ length entries.old.items → least ≤ length entries.new.items }
+{
+    let at = place_of(entries, tag);
+    if entries.len() <= least {
+        return false;
+    }
+    if has_tag(entries, at, tag) {
+        entries.remove(at);
+        *count -= 1;
+        return true;
+    }
+    false
+}
+
 /// Whether the entry at that place has the tag.
 fn has_tag<V>(entries: &[(u32, V)], at: usize, tag: u32) -> bool
     requires { at ≤ length entries.now }
@@ -147,7 +186,10 @@ pub(crate) fn value_of<V>(entries: &[(u32, V)], tag: u32) -> Option<&V>
 }
 
 /// Shares each of the entries, after those that are there.
-fn share_entries<V: Share>(all: &mut Vec<(u32, V)>, entries: &[(u32, V)]) -> Result<(), AllocError>
+pub(crate) fn share_entries<V: Share>(
+    all: &mut Vec<(u32, V)>,
+    entries: &[(u32, V)],
+) -> Result<(), AllocError>
     ensures { OnOk result (all.new.items ≡ all.old.items ++ entries.now) }
 {
     for entry in entries {
@@ -185,10 +227,11 @@ fn merged<V: Share>(
 }
 
 /// The entries without the first one, where that has the tag.
-fn without<V>(entries: &[(u32, V)], tag: u32) -> &[(u32, V)]
+pub(crate) fn without<V>(entries: &[(u32, V)], tag: u32) -> &[(u32, V)]
     requires rises { IsRising entries.now }
     requires from { AreFrom tag entries.now }
     ensures put { (value : V) → put nat_cmp tag value entries.now ≡ (tag, value) ∷ result.now }
+    ensures cut { result.now ≡ cut tag entries.now }
     ensures short { length result.now ≤ length entries.now }
 {
     match entries.split_first() {
@@ -285,7 +328,7 @@ fn push_page<V: Share>(
 
 /// Makes one page of the entries where they are at most 64, and else pages of 32 and a last one
 /// that takes the last 64 or fewer.
-fn push_parted<V: Share>(
+pub(crate) fn push_parted<V: Share>(
     alloc: Global,
     count: &mut usize,
     pages: &mut Vec<PageRef<V>>,
