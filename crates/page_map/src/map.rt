@@ -61,7 +61,8 @@ impl<V> PageMap<V> {
 
     /// How many entries there are. It takes no memory.
     pub fn len(&self) -> usize
-        ensures { result ≡ map.len self.now }
+        ensures len { result ≡ map.len self.now }
+        ensures few { result ≤ 2 ^ 32 }
     {
         self.count
     }

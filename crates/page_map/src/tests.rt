@@ -47,7 +47,7 @@ fn entries_are_taken_out_down_to_none(rt: HostRuntime) -> Result<(), Fail> {
         let tag = 2 * ((at + 150 * (at % 2)) % 300);
         assert_eq!(rt; map.remove(alloc, tag)?, Some(u64::from(tag / 2)));
         assert_eq!(rt; map.remove(alloc, tag)?, None);
-        assert!(rt; 32 * map.pages() <= map.len() + 31);
+        assert!(rt; map.pages() <= map.len() / 32 + 1);
     }
     assert!(rt; map.is_empty());
     assert_eq!(rt; map.pages(), 0);
