@@ -1,9 +1,11 @@
 -- One entry that is set in place: in its page, and in the list of pages.
-use Rattle.std.proofs.Common.{◌≡◌, ℕ, zero, suc, ◌+◌, ◌-◌, ◌<◌, ◌≤◌, ◌^◌, List, [], ◌∷◌, ◌++◌, length, get_or, take, drop, slice_set, true, false, Result, Ok, Err, Option, Some, None, refl, sym, ap, subst, ◌∙◌, arith, inl, inr, append_assoc, length-append}
+use Rattle.std.proofs.Common.{◌≡◌, ℕ, zero, suc, ◌+◌, ◌-◌, ◌<◌, ◌≤◌, ◌^◌, List, [], ◌∷◌, ◌++◌, length, get_or, take, drop, slice_set, Bool, cond, true, false, Result, Ok, Err, Option, Some, None, refl, sym, ap, subst, ◌∙◌, arith, inl, inr, append_assoc, length-append}
 use Rattle.std.specs.declared.cmp.Ordering.{Ordering}
 use Rattle.std.specs.declared.cmp.Ordering.TheVariants.{Less, Equal, Greater}
-use Rattle.std.specs.Ordering.{nat_cmp}
-use Rattle.std.specs.FinMap.{FinMap, from_sorted, put}
+use Rattle.std.specs.Ordering.{nat_cmp, eq_by_cmp}
+use Rattle.std.specs.Cmp.{nat_cmp_total}
+use Rattle.std.proofs.lemmas.Bool.Decides.{nat_tests}
+use Rattle.std.specs.FinMap.{FinMap, find, from_sorted, put, get, same_map, get-insert, nat_cmp-IsAntisymmetric}
 use Rattle.std.specs.FinMap as finite
 use Rattle.std.specs.List.{insert}
 use Rattle.std.specs.List.Sorted.{IsPartitionPoint}
@@ -129,3 +131,46 @@ module _ {V : Type 0} where
   map_put old new map tag v rises view (Ok None) is = ap (from_sorted {R = nat_cmp}) is ∙ from_sorted-put tag v old rises ∙ ap (λ map. finite.insert map tag v) view
   map_put old new map tag v rises view (Ok (Some back)) is = (ap (from_sorted {R = nat_cmp}) is.0 ∙ view, is.1)
   map_put old new map tag v rises view (Err e) is = ap (from_sorted {R = nat_cmp}) is ∙ view
+
+  -- the value at that place is that of the tag
+  found_first : (tag : ℕ) (es : List (ℕ × V)) (at : ℕ) (entry : ℕ × V) → AreBelow tag (take at es) → at < length es → ((entry : ℕ × V) → (get_or es at entry).0 ≡ tag) → find nat_cmp tag es ≡ Some (get_or es at entry).1
+  found_first tag [] at entry below lt there = absurd (omega arith)
+  found_first tag (e ∷ es) zero entry below lt there =
+      subst (λ n. find nat_cmp n (e ∷ es) ≡ Some e.1) (there e) (rw (equal e.0) refl)
+  found_first tag (e ∷ es) (suc at) entry below lt there = rw (greater tag e.0 below.0) (found_first tag es at entry below.1 (omega arith) there)
+
+  pub found_there : (tag : ℕ) (es : List (ℕ × V)) (at : ℕ) (read : ℕ × V) → AreBelow tag (take at es) → at < length es → ((entry : ℕ × V) → (get_or es at entry).0 ≡ tag) → read ≡ get_or es at read → Some read.1 ≡ find nat_cmp tag es
+  found_there tag es at read below lt there is = ap (λ e. Some e.1) is ∙ sym (found_first tag es at read below lt there)
+
+  -- ---- a value that is written in its place
+
+  same_length : (tag : ℕ) (w : V) (es : List (ℕ × V)) (at : ℕ) → AreBelow tag (take at es) → at < length es → ((entry : ℕ × V) → (get_or es at entry).0 ≡ tag) → length (put nat_cmp tag w es) ≡ length es
+  same_length tag w es at below lt there = sym (ap length (put_there tag w es at tag below lt refl there)) ∙ length-set es at (tag, w)
+
+  pub table_lent : (pages : List (Shared V)) (count : ℕ) → IsTable pages count → (tag at : ℕ) (old new : Shared V) → at < length pages → IsParted pages tag (take at pages) old.value (drop (at + 1) pages) → tag < 2 ^ 32 → (es : List (ℕ × V)) (place : ℕ) → es ≡ old.value → IsPage es → AreBelow tag (take place es) → place < length es → ((entry : ℕ × V) → (get_or es place entry).0 ≡ tag) → (w : V) → new.value ≡ put nat_cmp tag w es → IsTable (slice_set pages at new) count
+  table_lent pages count table tag at old new lt parted small es place same page below inside there w is =
+      let size = same_length tag w es place below inside there in
+      table_put pages count table tag at old new lt parted w small count (rw is (page_put tag w es page (omega (arith, size, page.has_room)))) (omega (arith, ap length is, size, ap length same)) {E = Unit {0}} (Ok None) (is ∙ ap (put nat_cmp tag w) same)
+
+  pub map_lent : (pages : List (Shared V)) (count : ℕ) (map : FinMap nat_cmp V) → IsTable pages count → from_sorted (joined pages) ≡ map → (tag at : ℕ) (old new : Shared V) → at < length pages → IsParted pages tag (take at pages) old.value (drop (at + 1) pages) → (es : List (ℕ × V)) → es ≡ old.value → (w : V) → new.value ≡ put nat_cmp tag w es → from_sorted (joined (slice_set pages at new)) ≡ finite.insert map tag w
+  map_lent pages count map table view tag at old new lt parted es same w is =
+      ap (from_sorted {R = nat_cmp}) (put_all pages count table tag at old new lt parted w (is ∙ ap (put nat_cmp tag w) same)) ∙ from_sorted-put tag w (joined pages) table.rises ∙ ap (λ map. finite.insert map tag w) view
+
+  module _ (pages : List (Shared V)) (count : ℕ) (table : IsTable pages count) (tag at : ℕ) (old new : Shared V) (lt : at < length pages) (parted : IsParted pages tag (take at pages) old.value (drop (at + 1) pages)) (same : new.value ≡ old.value) where
+    pub table_same : IsPage new.value → IsTable (slice_set pages at new) count
+    table_same page =
+        table_set pages count table tag at old new lt parted count page (λ two. omega (arith, half pages count table tag at old new lt parted two, ap length same)) (rw (kept pages count table tag at old new lt parted same) table.rises) (rw (kept pages count table tag at old new lt parted same) table.in_range) (omega (arith, ap length same))
+
+    pub map_same : (map : FinMap nat_cmp V) → from_sorted (joined pages) ≡ map → from_sorted (joined (slice_set pages at new)) ≡ map
+    map_same map view = ap (from_sorted {R = nat_cmp}) (kept pages count table tag at old new lt parted same) ∙ view
+
+  -- an entry that is set to what it is
+  pub insert_same : (map : FinMap nat_cmp V) (tag : ℕ) (v : V) → get map tag ≡ Some v → finite.insert map tag v ≡ map
+  insert_same map tag v is = same_map nat_cmp_total nat_cmp-IsAntisymmetric _ _ (λ q. get-insert nat_cmp_total map tag v q ∙ same q (eq_by_cmp nat_cmp q tag) refl)
+    where
+      tied : (q : ℕ) → eq_by_cmp nat_cmp q tag ≡ true → tag ≡ q
+      tied q is = grind (arith, nat_tests, is)
+
+      same : (q : ℕ) (b : Bool) → eq_by_cmp nat_cmp q tag ≡ b → cond b (Some v) (get map q) ≡ get map q
+      same q true tie = sym is ∙ ap (get map) (tied q tie)
+      same q false tie = refl

@@ -1,6 +1,7 @@
 //! Finite maps from tag to value, in shared pages.
 #![tactic(auto)]
 
+mod lent;
 mod map;
 mod owned;
 mod page;

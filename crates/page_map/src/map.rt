@@ -20,7 +20,7 @@ use std::sync::Arc;
 /// It is a shared list of shared pages, so a change copies one page and the list.
 #[derive(Drop)]
 pub struct PageMap<V> {
-    pages: Option<Arc<Vec<PageRef<V>>>>,
+    pub(crate) pages: Option<Arc<Vec<PageRef<V>>>>,
     count: usize,
 }
 
@@ -153,6 +153,19 @@ impl<V: Share> PageMap<V> {
             let (made, _) = self.with_all(alloc, one)?;
             *self = made;
         }
+        Ok(())
+    }
+
+    /// Gives the page of a tag, and the list of pages, no other owner, so that `get_mut` may lend the
+    /// tag's value: each of them is copied where it has one.
+    pub fn own(&mut self, alloc: Global, tag: u32) -> Result<(), AllocError>
+        ensures { self.new ≡ self.old }
+    {
+        let value = match self.get(tag) {
+            Some(value) => value.share()?,
+            None => return Ok(()),
+        };
+        self.insert(alloc, tag, value)?;
         Ok(())
     }
 

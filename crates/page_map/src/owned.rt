@@ -36,7 +36,7 @@ fn own_page<V: Share>(alloc: Global, page: &mut PageRef<V>) -> Result<(), AllocE
 }
 
 /// The place of the page that a tag belongs in.
-fn page_place<V>(pages: &[PageRef<V>], tag: u32) -> usize
+pub(crate) fn page_place<V>(pages: &[PageRef<V>], tag: u32) -> usize
     requires pages { ArePages pages.now }
     requires rises { IsRising (joined pages.now) }
     requires some { 1 ≤ length pages.now }

@@ -16,7 +16,7 @@ use std::sync::Arc;
 /// 1 to 64 entries in the order of their tags.
 #[derive(Drop)]
 pub(crate) struct Page<V> {
-    entries: Vec<(u32, V)>,
+    pub(crate) entries: Vec<(u32, V)>,
 }
 
 /// A shared page.
@@ -163,7 +163,7 @@ fn cut_entry<V: Share>(
 }
 
 /// Whether the entry at that place has the tag.
-fn has_tag<V>(entries: &[(u32, V)], at: usize, tag: u32) -> bool
+pub(crate) fn has_tag<V>(entries: &[(u32, V)], at: usize, tag: u32) -> bool
     requires { at ≤ length entries.now }
     ensures { IsTrue result ↔ ((at < length entries.now) × ((entry : ℕ × V) → (get_or entries.now at entry).0 ≡ tag)) }
 {

@@ -22,12 +22,18 @@ fn a_share_changes_by_itself(rt: HostRuntime) -> Result<(), Fail> {
     let mut other = map.share()?;
     other.insert(alloc, 4096, 7)?;
     other.insert(alloc, 1, 9)?;
+    other.own(alloc, 8)?;
+    if let Some(value) = other.get_mut(8) {
+        *value = 11;
+    }
     let (third, count) = other.with_all(alloc, vec![in alloc; (3, 4)]?)?;
     assert_eq!(rt; map.len(), 4096);
     assert_eq!(rt; other.len(), 4097);
     assert_eq!(rt; third.len(), 4098);
     assert_eq!(rt; map.get(4096).copied(), Some(2048));
     assert_eq!(rt; other.get(4096).copied(), Some(7));
+    assert_eq!(rt; map.get(8).copied(), Some(4));
+    assert_eq!(rt; other.get(8).copied(), Some(11));
     assert_eq!(rt; map.get(1).copied(), None);
     assert_eq!(rt; third.get(1).copied(), Some(9));
     assert_eq!(rt; third.get(3).copied(), Some(4));
