@@ -1,8 +1,8 @@
 -- An entry that is taken out of a page that is joined with a neighbour.
-use Rattle.std.proofs.Common.{◌≡◌, ℕ, ◌+◌, ◌-◌, ◌<◌, ◌≤◌, List, [], ◌∷◌, ◌++◌, length, refl, sym, ap, subst, ◌∙◌, arith, append_assoc, append-nil, length-append, inl, inr}
+use Rattle.std.proofs.Common.{◌≡◌, ℕ, ◌+◌, ◌≤◌, List, [], ◌∷◌, ◌++◌, length, sym, ap, subst, ◌∙◌, arith, append_assoc, append-nil, length-append, inl, inr}
 use Rattle.std.proofs.lemmas.Bool.{cases_lt}
 use Rattle.page_map.specs.Pages.{AreFew, AreHalfFull, ArePages, IsAround, IsPage, IsParted, Shared, cut, joined}
-use Rattle.page_map.specs.Rising.{AreAbove, AreBelow, Each, IsRising}
+use Rattle.page_map.specs.Rising.{AreAbove, AreBelow, IsRising}
 use Rattle.page_map.proofs.Each.{each_left, each_right}
 use Rattle.page_map.proofs.Joined.{joined-push}
 use Rattle.page_map.proofs.Rising.{rising_left, rising_right}

@@ -1,7 +1,6 @@
 -- One entry that is set in place: in its page, and in the list of pages.
 use Rattle.std.proofs.Common.{◌≡◌, ℕ, zero, suc, ◌+◌, ◌-◌, ◌<◌, ◌≤◌, ◌^◌, List, [], ◌∷◌, ◌++◌, length, get_or, take, drop, slice_set, Bool, cond, true, false, Result, Ok, Err, Option, Some, None, refl, sym, ap, subst, ◌∙◌, arith, inl, inr, append_assoc, length-append}
-use Rattle.std.specs.declared.cmp.Ordering.{Ordering}
-use Rattle.std.specs.declared.cmp.Ordering.TheVariants.{Less, Equal, Greater}
+use Rattle.std.specs.declared.cmp.Ordering.TheVariants.{Equal}
 use Rattle.std.specs.Ordering.{nat_cmp, eq_by_cmp}
 use Rattle.std.specs.Cmp.{nat_cmp_total}
 use Rattle.std.proofs.lemmas.Bool.Decides.{nat_tests}
@@ -12,11 +11,10 @@ use Rattle.std.specs.List.Sorted.{IsPartitionPoint}
 use Rattle.std.proofs.lemmas.Bool.{cases_lt}
 use Rattle.std.proofs.lemmas.List.{length-set, take_more}
 use Rattle.page_map.specs.Entries.{IsPutIn}
-use Rattle.page_map.specs.Pages.{AreHalfFull, ArePages, IsPage, IsParted, IsPut, IsTable, Shared, joined}
+use Rattle.page_map.specs.Pages.{ArePages, IsPage, IsParted, IsPut, IsTable, Shared, joined}
 use Rattle.page_map.specs.Rising.{AreBelow, AreFrom, Each, IsRising}
-use Rattle.page_map.proofs.Each.{each_left, each_right, each-append}
-use Rattle.page_map.proofs.Joined.{parted_first, parted_last, starts_by, joined-append}
-use Rattle.page_map.proofs.Rising.{less, greater, equal, length-put, rising-put, rising_few, each-put, from_sorted-put, put_after, put_before}
+use Rattle.page_map.proofs.Joined.{parted_first, parted_last, starts_by}
+use Rattle.page_map.proofs.Rising.{less, greater, equal, length-put, rising-put, each-put, from_sorted-put, put_after, put_before}
 
 module _ {X : Type 0} (P : X → Type 0) where
   pub each_set : (xs : List X) (i : ℕ) (y : X) → Each P xs → P y → Each P (slice_set xs i y)

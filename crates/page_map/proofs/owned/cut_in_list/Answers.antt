@@ -1,5 +1,5 @@
-use Rattle.std.proofs.Common.{◌≡◌, ◌+◌, ◌≤◌, length, ap, sym, subst, arith, take, drop}
-use Rattle.page_map.specs.Pages.{IsParted, joined}
+use Rattle.std.proofs.Common.{◌+◌, ◌≤◌, length, sym, subst, take, drop}
+use Rattle.page_map.specs.Pages.{IsParted}
 use Rattle.page_map.proofs.Cut.{table_cut, cut_in_all, part_le}
 use Rattle.page_map.proofs.owned.cut_in_list.Goals as goal
 

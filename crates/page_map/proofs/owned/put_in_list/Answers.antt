@@ -1,4 +1,4 @@
-use Rattle.std.proofs.Common.{◌≡◌, ◌+◌, ap, sym, subst, arith, take, drop}
+use Rattle.std.proofs.Common.{◌+◌, sym, subst, arith, take, drop}
 use Rattle.page_map.specs.Pages.{IsParted, joined}
 use Rattle.page_map.proofs.Rising.{rising_few}
 use Rattle.page_map.proofs.Put.{table_put, put_in_all}

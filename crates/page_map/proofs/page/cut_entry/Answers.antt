@@ -1,4 +1,4 @@
-use Rattle.std.proofs.Common.{ap, sym, subst, ◌∙◌, arith}
+use Rattle.std.proofs.Common.{sym, subst, ◌∙◌, arith}
 use Rattle.page_map.specs.Pages.{IsPage}
 use Rattle.page_map.proofs.Cut.{cut_there, page_cut}
 use Rattle.page_map.proofs.page.cut_entry.Goals as goal

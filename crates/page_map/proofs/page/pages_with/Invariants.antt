@@ -1,4 +1,4 @@
-use Rattle.std.proofs.Common.{◌≡◌, ◌+◌, ◌-◌, ◌*◌, ◌≤◌, length}
+use Rattle.std.proofs.Common.{◌+◌, ◌-◌, ◌*◌, ◌≤◌, length}
 use Rattle.counts.specs.Raised.{raised}
 use Rattle.page_map.proofs.Merged.{IsPlacing}
 use Rattle.page_map.proofs.page.pages_with.Given as goal

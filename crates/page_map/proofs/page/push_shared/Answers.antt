@@ -1,4 +1,4 @@
-use Rattle.std.proofs.Common.{◌≡◌, ◌+◌, ◌<◌, arith, ap, ◌++◌, ◌∙◌, length, take, drop, take-append-drop, append_assoc}
+use Rattle.std.proofs.Common.{arith, ap, ◌++◌, ◌∙◌, length, take, drop, take-append-drop, append_assoc}
 use Rattle.page_map.specs.Pages.{joined}
 use Rattle.page_map.proofs.Counts.{raised_through}
 use Rattle.page_map.proofs.Joined.{part_is_page, part_and_rest}

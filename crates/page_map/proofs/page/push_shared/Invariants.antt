@@ -1,4 +1,4 @@
-use Rattle.std.proofs.Common.{◌≡◌, ◌-◌, ◌++◌, ◌≤◌, ◌+◌, length}
+use Rattle.std.proofs.Common.{◌≡◌, ◌-◌, ◌++◌, ◌≤◌, length}
 use Rattle.counts.specs.Raised.{raised}
 use Rattle.page_map.specs.Pages.{AreHalfFull, ArePages, joined}
 use Rattle.page_map.specs.Rising.{IsRising}

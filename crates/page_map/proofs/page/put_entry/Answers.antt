@@ -1,7 +1,4 @@
-use Rattle.std.proofs.Common.{◌≡◌, ◌<◌, ◌≤◌, ap, sym, subst, ◌∙◌, arith, length, slice_set, true, false}
-use Rattle.std.specs.Bool.{IsTrue}
-use Rattle.std.specs.FinMap.{put}
-use Rattle.std.specs.Ordering.{nat_cmp}
+use Rattle.std.proofs.Common.{◌≡◌, ap, sym, subst, ◌∙◌, arith, length, true, false}
 use Rattle.std.proofs.lemmas.List.{length-set}
 use Rattle.page_map.specs.Pages.{IsPage}
 use Rattle.page_map.proofs.Put.{put_there, put_new, page_put}

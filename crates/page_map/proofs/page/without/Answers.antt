@@ -1,5 +1,4 @@
-use Rattle.std.proofs.Common.{ap, sym, ◌∙◌}
-use Rattle.page_map.proofs.Cut.{cut_hit, cut_missed, cut_none}
+use Rattle.page_map.proofs.Cut.{cut_hit, cut_missed}
 use Rattle.page_map.proofs.page.without.Goals as goal
 
 pub returns-in-Some-clause-cut : goal.returns-in-Some-clause-cut

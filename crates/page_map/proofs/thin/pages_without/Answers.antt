@@ -1,4 +1,4 @@
-use Rattle.std.proofs.Common.{ap, sym, ◌∙◌, ◌++◌, length, arith}
+use Rattle.std.proofs.Common.{ap, ◌∙◌, ◌++◌, length, arith}
 use Rattle.page_map.specs.Pages.{joined}
 use Rattle.page_map.proofs.Around.{here_in_order, cut_whole, gathered_rise, few_left}
 use Rattle.page_map.proofs.Joined.{half_full_none}

@@ -1,4 +1,4 @@
-use Rattle.std.proofs.Common.{sym, ◌∙◌}
+use Rattle.std.proofs.Common.{sym}
 use Rattle.page_map.proofs.Cut.{remove_absent}
 use Rattle.page_map.proofs.map.PageMap.remove.Goals as goal
 
