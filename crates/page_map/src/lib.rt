@@ -12,3 +12,11 @@ mod thin;
 
 pub use map::PageMap;
 pub use share::{Joint, Share};
+
+fn needs_send<T: Send + Sync>(_value: &T) {}
+
+/// Maps of values that threads may share are shared by threads.
+pub fn is_shared_by_threads<V: Send + Sync>(map: &PageMap<V>, joint: &Joint<V>) {
+    needs_send(map);
+    needs_send(joint);
+}
