@@ -1,0 +1,11 @@
+pub mod Around
+pub mod Counts
+pub mod Cut
+pub mod Each
+pub mod Rising
+pub mod Joined
+pub mod Merged
+pub mod Parts
+pub mod Put
+pub mod Taken
+pub mod Sorted

@@ -1,0 +1,4 @@
+pub mod Rising
+pub mod Entries
+pub mod Pages
+pub mod Lent
