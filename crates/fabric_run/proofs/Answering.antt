@@ -8,7 +8,7 @@ use Rattle.fabric_run.specs.declared.status.Status.TheVariants.{Usage, Memory}
 use Rattle.fabric_run.specs.declared.words.Command.{Command}
 use Rattle.fabric_run.specs.declared.words.Command.TheVariants.{Turns, Run, Make, Sweep}
 use Rattle.fabric_run.specs.Words.{command_in}
-use Rattle.fabric_run.specs.Commands.{CommandEnds, IsUsageOrMemory, Answers}
+use Rattle.fabric_run.specs.Commands.{CommandEnds, IsUsageOrMemory, AnswersWords}
 use Rattle.fabric_run.proofs.NamedCommands.{turns_named, run_named, make_named, sweep_named}
 
 module _ (words : List (List ℕ)) (old new : SourceView) (out_old out_new : SinkView) where
@@ -20,7 +20,7 @@ module _ (words : List (List ℕ)) (old new : SourceView) (out_old out_new : Sin
   never_usage (Sweep number) ends = ends.0.leaves
 
   -- where the words name a command, it is what the program does
-  pub answers_named : (command : Command) (status : Status) → command_in words ≡ Some command → CommandEnds command old new out_old out_new status → Answers words old new out_old out_new status
+  pub answers_named : (command : Command) (status : Status) → command_in words ≡ Some command → CommandEnds command old new out_old out_new status → AnswersWords words old new out_old out_new status
   answers_named command status names ends = record {
     answers = inl (record { command = command; names = names; ends = ends });
     usage = λ e. absurd (never_usage command (subst (CommandEnds command old new out_old out_new) e ends));
@@ -39,7 +39,7 @@ module _ (words : List (List ℕ)) (old new : SourceView) (out_old out_new : Sin
 
 module _ (words : List (List ℕ)) (source : SourceView) (out : SinkView) where
   -- where they name none, it is told, or there was no memory to see it
-  pub answers_none : (status : Status) → command_in words ≡ None → IsUsageOrMemory status → Answers words source source out out status
+  pub answers_none : (status : Status) → command_in words ≡ None → IsUsageOrMemory status → AnswersWords words source source out out status
   answers_none status names told = record {
     answers = inr (record { names = names; told = told; source = refl; out = refl });
     usage = λ e. names;
@@ -61,9 +61,9 @@ module _ (words : List (List ℕ)) (source : SourceView) (out : SinkView) where
   ends_at_once (Sweep number) = (record { leaves = refl; complete = λ a. tt }, refl)
 
   -- where there is no memory to read the words, that is told
-  pub answers_memory : Answers words source source out out Memory
+  pub answers_memory : AnswersWords words source source out out Memory
   answers_memory = go (command_in words) refl
     where
-      go : (named : Option Command) → command_in words ≡ named → Answers words source source out out Memory
+      go : (named : Option Command) → command_in words ≡ named → AnswersWords words source source out out Memory
       go None e = answers_none Memory e tt
       go (Some command) e = answers_named words source source out out command Memory e (ends_at_once command)

@@ -22,9 +22,9 @@ use Rattle.clap.proofs.FaultLemmas.{leaf_fault}
 use Rattle.clap.proofs.WalkLemmas.{first_value-rows, list_any-map, one_text-rows}
 use Rattle.fabric_run.specs.declared.words.Command.{Command}
 use Rattle.fabric_run.specs.declared.words.Command.TheVariants.{Turns, Run, Make, Sweep}
-use Rattle.fabric_run.specs.Words.{app_with, command_by, command_found, command_in, command_of, command_words, nowhere, number_in}
-use Rattle.fabric_run.specs.Commands.{IsWithin}
-use Rattle.fabric_run.specs.Steps.{HasReadableNumber, IsReadable}
+use Rattle.fabric_run.specs.Words.{app_with, command_by, command_found, command_in, command_of, command_words, lent_nowhere, number_in}
+use Rattle.fabric_run.specs.Commands.{HasSmallNumber}
+use Rattle.fabric_run.specs.Steps.{HasReadableNumber, IsSmallNumeral}
 use Rattle.fabric_run.proofs.WalkOfWords.{by_word, is_dashes, is_flag, from_start, reads, reads_one, reads_two, rows_for}
 use Rattle.fabric_run.proofs.Numerals.{is_read, is_taken, not_dashes, not_flag, readable}
 
@@ -72,7 +72,7 @@ module _ (names : Bor (List (Bor Text))) (are : map (λ s. s.now) names.now ≡ 
 -- the command that words name, by their values
 pub named_by_values : (words : List Text) → command_in words ≡ option_and_then found (values words)
 unfolding command_in
-named_by_values words = command_of_values (nowhere (map nowhere command_words)) refl words
+named_by_values words = command_of_values (lent_nowhere (map lent_nowhere command_words)) refl words
 
 -- wherever the names lie, it is the command that the words name
 pub same_command : (names : Bor (List (Bor Text))) → map (λ s. s.now) names.now ≡ command_words → (words : List Text) → command_by (app_with names) words ≡ command_in words
@@ -128,26 +128,26 @@ number_of_values true (w ∷ ws) = number_of_one true w ws
 number_of_values false (w ∷ ws) = either_way w _ _ _ (number_of_values true ws) tt (number_of_one false w ws)
 
 -- a command that words name has a number within the range
-pub named_within : (words : List Text) (command : Command) → command_in words ≡ Some command → IsWithin command
+pub named_within : (words : List Text) (command : Command) → command_in words ≡ Some command → HasSmallNumber command
 named_within words command named = go (values words) (number_of_values false words) (sym (named_by_values words) ∙ named)
   where
-    alone : (word : Text) → command_of word None ≡ Some command → IsWithin command
+    alone : (word : Text) → command_of word None ≡ Some command → HasSmallNumber command
     alone word e = pick (bytes_eq word (codes "turns")) (bytes_eq word (codes "run")) e
       where
-        pick : (a b : Bool) → cond a (Some Turns) (cond b (Some Run) None) ≡ Some command → IsWithin command
-        pick true b e = subst IsWithin (ap (λ (o : Option Command). unwrap_or o command) e) tt
-        pick false true e = subst IsWithin (ap (λ (o : Option Command). unwrap_or o command) e) tt
+        pick : (a b : Bool) → cond a (Some Turns) (cond b (Some Run) None) ≡ Some command → HasSmallNumber command
+        pick true b e = subst HasSmallNumber (ap (λ (o : Option Command). unwrap_or o command) e) tt
+        pick false true e = subst HasSmallNumber (ap (λ (o : Option Command). unwrap_or o command) e) tt
         pick false false e = cc
 
-    numbered : (word : Text) (n : ℕ) → n ≤ 1000000 → command_of word (Some n) ≡ Some command → IsWithin command
+    numbered : (word : Text) (n : ℕ) → n ≤ 1000000 → command_of word (Some n) ≡ Some command → HasSmallNumber command
     numbered word n small e = pick (bytes_eq word (codes "make")) (bytes_eq word (codes "sweep")) e
       where
-        pick : (a b : Bool) → cond a (Some (Make n)) (cond b (Some (Sweep n)) None) ≡ Some command → IsWithin command
-        pick true b e = subst IsWithin (ap (λ (o : Option Command). unwrap_or o command) e) small
-        pick false true e = subst IsWithin (ap (λ (o : Option Command). unwrap_or o command) e) small
+        pick : (a b : Bool) → cond a (Some (Make n)) (cond b (Some (Sweep n)) None) ≡ Some command → HasSmallNumber command
+        pick true b e = subst HasSmallNumber (ap (λ (o : Option Command). unwrap_or o command) e) small
+        pick false true e = subst HasSmallNumber (ap (λ (o : Option Command). unwrap_or o command) e) small
         pick false false e = cc
 
-    go : (o : Option (Text × Option Text)) → IfSome o HasNumber → option_and_then found o ≡ Some command → IsWithin command
+    go : (o : Option (Text × Option Text)) → IfSome o HasNumber → option_and_then found o ≡ Some command → HasSmallNumber command
     go None h e = cc
     go (Some (word, None)) h e = alone word e
     go (Some (word, Some n)) h e = numbered word _ (readable n h).small e
@@ -188,11 +188,11 @@ module _ (f : Found) where
       → number ≡ option_map number_in (one_of (codes "number") (rows_of f))
   number_read E G number parses has none some = go (one_of (codes "number") (rows_of f)) (one_text-rows f (codes "number")) has
     where
-      read : (text : Text) (number : Option ℕ) → ReadsOne G text number → IsReadable text → number ≡ Some (number_in text)
+      read : (text : Text) (number : Option ℕ) → ReadsOne G text number → IsSmallNumeral text → number ≡ Some (number_in text)
       read text (Some n) reads h = ap Some (parses text (Ok n) reads).1
       read text None reads h = absurd (parses text (Err reads.0) reads.1 (h.numeral, omega (arith, h.small)))
 
-      go : (o : Option Text) → one_text f (codes "number") ≡ o → IfSome o IsReadable → number ≡ option_map number_in o
+      go : (o : Option Text) → one_text f (codes "number") ≡ o → IfSome o IsSmallNumeral → number ≡ option_map number_in o
       go None e h = none e
       go (Some text) e h = read text number (some text e) h
 

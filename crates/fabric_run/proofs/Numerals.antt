@@ -12,7 +12,7 @@ use Rattle.clap.specs.Values.{IsSignedIn}
 use Rattle.clap.specs.ValueTests.{accepts}
 use Rattle.clap.specs.declared.builder.value_parser.ValueParser.TheVariants as vp
 use Rattle.clap.proofs.ValueTestLemmas.{Accepts-accepts, accepts-Accepts}
-use Rattle.fabric_run.specs.Steps.{IsReadable}
+use Rattle.fabric_run.specs.Steps.{IsSmallNumeral}
 use Rattle.fabric_run.specs.Words.{number_in}
 use Rattle.fabric_run.proofs.WalkOfWords.{is_dashes, is_flag}
 
@@ -50,11 +50,11 @@ module _ (n : ℕ) (small : n ≤ 1000000) where
 no_plus : (ds : Text) → IsNumeral 10 ds → without_leading_plus ds ≡ ds
 no_plus ds h = (no_sign ds h).3
 
-readable_from : (text : Text) → IsSignedIn (pos 0) (pos 1000000) text → IsReadable (without_minus text)
+readable_from : (text : Text) → IsSignedIn (pos 0) (pos 1000000) text → IsSmallNumeral (without_minus text)
 readable_from [] h = absurd (omega (arith, h.0.0))
 readable_from (d ∷ ds) h = go (d == 45) refl
   where
-    go : (b : Bool) → (d == 45) ≡ b → IsReadable (without_minus (d ∷ ds))
+    go : (b : Bool) → (d == 45) ≡ b → IsSmallNumeral (without_minus (d ∷ ds))
     go true e =
         let numeral : IsNumeral 10 ds = rw e at h.0 in
         let high = rw e at h.3 in
@@ -67,5 +67,5 @@ readable_from (d ∷ ds) h = go (d == 45) refl
         rw e (record { numeral = numeral; small = omega (arith, ints) })
 
 -- a text that is taken can be read
-pub readable : (text : Text) → accepts false (vp.Signed (pos 0) (pos 1000000)) text ≡ true → IsReadable (without_minus text)
+pub readable : (text : Text) → accepts false (vp.Signed (pos 0) (pos 1000000)) text ≡ true → IsSmallNumeral (without_minus text)
 readable text e = readable_from text (accepts-Accepts false (vp.Signed (pos 0) (pos 1000000)) text e)

@@ -67,11 +67,11 @@ CommandEnds (Make number) old new out_old out_new status = MakeEnds number out_o
 CommandEnds (Sweep number) old new out_old out_new status = SweepEnds number out_old out_new status × (new ≡ old)
 
 -- the number of a command is at most 1,000,000
-abbrev pub IsWithin : Command → Type 0
-IsWithin Turns = Unit {0}
-IsWithin Run = Unit {0}
-IsWithin (Make number) = number ≤ 1000000
-IsWithin (Sweep number) = number ≤ 1000000
+abbrev pub HasSmallNumber : Command → Type 0
+HasSmallNumber Turns = Unit {0}
+HasSmallNumber Run = Unit {0}
+HasSmallNumber (Make number) = number ≤ 1000000
+HasSmallNumber (Sweep number) = number ≤ 1000000
 
 -- the words name a command, and it ended
 pub record RunsCommand (words : List (List ℕ)) (old new : SourceView) (out_old out_new : SinkView) (status : Status) : Type 0 where
@@ -96,12 +96,12 @@ pub record RunsNone (words : List (List ℕ)) (old new : SourceView) (out_old ou
   pub out : out_new ≡ out_old
 
 -- what the program does for its words
-abbrev pub AnswersWords : List (List ℕ) → (old new : SourceView) → (out_old out_new : SinkView) → Status → Type 0
-AnswersWords words old new out_old out_new status = RunsCommand words old new out_old out_new status ⊎ RunsNone words old new out_old out_new status
+abbrev pub RunsWords : List (List ℕ) → (old new : SourceView) → (out_old out_new : SinkView) → Status → Type 0
+RunsWords words old new out_old out_new status = RunsCommand words old new out_old out_new status ⊎ RunsNone words old new out_old out_new status
 
 -- what follows for the status, and for words in their plain form: `Usage` comes only where the words name no command, and then nothing else comes but for want of memory
-pub record Answers (words : List (List ℕ)) (old new : SourceView) (out_old out_new : SinkView) (status : Status) : Type 0 where
-  pub answers : AnswersWords words old new out_old out_new status
+pub record AnswersWords (words : List (List ℕ)) (old new : SourceView) (out_old out_new : SinkView) (status : Status) : Type 0 where
+  pub answers : RunsWords words old new out_old out_new status
   pub usage : status ≡ Usage → command_in words ≡ None
   pub none : command_in words ≡ None → IsUsageOrMemory status
   pub turns : words ≡ codes "turns" ∷ [] → TurnsEnd old new out_old out_new status

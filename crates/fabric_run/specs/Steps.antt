@@ -17,14 +17,14 @@ use Rattle.fabric_run.specs.Commands.{script_reading}
 use Rattle.fabric_run.specs.Words.{app_with, command_words, number_in}
 
 -- what reading a script leaves on the source: the script that its bytes are, or the status that the program ends with
-abbrev pub ReadsScript : (old new : SourceView) → Result Script Status → Type 0
-ReadsScript old new (Ok script) = ReadsAs script_reading old new (Ok (plain_script script))
-ReadsScript old new (Err Done) = ⊥
-ReadsScript old new (Err (Refused fault)) = HasFault script_reading old new fault
-ReadsScript old new (Err Usage) = ⊥
-ReadsScript old new (Err ReadFault) = HasRisen old.faults new.faults
-ReadsScript old new (Err WriteFault) = ⊥
-ReadsScript old new (Err Memory) = Unit {0}
+abbrev pub ReadsFromSource : (old new : SourceView) → Result Script Status → Type 0
+ReadsFromSource old new (Ok script) = ReadsAs script_reading old new (Ok (plain_script script))
+ReadsFromSource old new (Err Done) = ⊥
+ReadsFromSource old new (Err (Refused fault)) = HasFault script_reading old new fault
+ReadsFromSource old new (Err Usage) = ⊥
+ReadsFromSource old new (Err ReadFault) = HasRisen old.faults new.faults
+ReadsFromSource old new (Err WriteFault) = ⊥
+ReadsFromSource old new (Err Memory) = Unit {0}
 
 -- what writing a text at hand leaves on the sink
 abbrev pub WritesText : List ℕ → (old new : SinkView) → Status → Type 0
@@ -42,10 +42,10 @@ pub record IsCommandLine (line : CommandLine) : Type 0 where
   pub app : app_of line ≡ app_with names
 
 -- a text is a number of at most 1,000,000
-pub record IsReadable (text : Text) : Type 0 where
+pub record IsSmallNumeral (text : Text) : Type 0 where
   pub numeral : IsNumeral 10 (without_leading_plus text)
   pub small : number_in text ≤ 1000000
 
 -- so is the text that was found for `number`, where there is one
 abbrev pub HasReadableNumber : List Row → Type 0
-HasReadableNumber rows = IfSome (one_of (codes "number") rows) IsReadable
+HasReadableNumber rows = IfSome (one_of (codes "number") rows) IsSmallNumeral

@@ -15,8 +15,8 @@ abbrev pub command_words : List Text
 command_words = codes "turns" ∷ codes "run" ∷ codes "make" ∷ codes "sweep" ∷ []
 
 -- a reference to a value that lies nowhere; what words name does not hang on where it lies
-abbrev pub nowhere : {X : Type 0} → X → Bor X
-nowhere x = record { ref_ptr = (0, 0); now = x }
+abbrev pub lent_nowhere : {X : Type 0} → X → Bor X
+lent_nowhere x = record { ref_ptr = (0, 0); now = x }
 
 -- the argument `command`: it is required, and one of these names
 abbrev pub command_rule : Bor (List (Bor Text)) → Rule
@@ -32,7 +32,7 @@ app_with names =
     with_rule (with_rule (on_top (λ s. record s { no_binary_name = true; disable_help_flag = true }) (new_app (codes "fabric"))) (command_rule names)) number_rule
 
 abbrev pub program : App
-program = app_with (nowhere (map nowhere command_words))
+program = app_with (lent_nowhere (map lent_nowhere command_words))
 
 -- the command of a word and a number: `make` and `sweep` have one, and `turns` and `run` have none
 abbrev pub command_of : Text → Option ℕ → Option Command

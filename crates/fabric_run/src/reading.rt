@@ -3,7 +3,7 @@
 ghost use Rattle.std.specs.Prelude.{IfOk};
 ghost use Rattle.tree_revision.specs.Sound.{IsSoundScript, IsWithinCounts};
 ghost use Rattle.script_read.specs.Plain.{plain_script};
-ghost use Rattle.fabric_run.specs.Steps.{ReadsScript};
+ghost use Rattle.fabric_run.specs.Steps.{ReadsFromSource};
 
 use crate::status::Status;
 use byte_ports::{ReadRefusal, Source, Taken, read_up_to};
@@ -16,7 +16,7 @@ const SCRIPT_BYTES: usize = 4_194_304;
 /// Reads the source to its end. Answers the script that its bytes are, or the status that the program
 /// ends with.
 pub(crate) fn script_from<S: Source>(alloc: Global, source: &mut S) -> Result<Script, Status>
-    ensures reads { ReadsScript (S.source_view source.old) (S.source_view source.new) result }
+    ensures reads { ReadsFromSource (S.source_view source.old) (S.source_view source.new) result }
     ensures sound { IfOk result (λ script. IsSoundScript (plain_script script)) }
     ensures counts { IfOk result (λ script. IsWithinCounts (plain_script script)) }
 {

@@ -1,7 +1,7 @@
 //! The top call: all that the program does.
 
 ghost use Rattle.std.specs.Prelude.{map, string_bytes};
-ghost use Rattle.fabric_run.specs.Commands.{Answers, CommandEnds, IsWithin};
+ghost use Rattle.fabric_run.specs.Commands.{AnswersWords, CommandEnds, HasSmallNumber};
 ghost use Rattle.fabric_run.specs.Texts.{Tells, status_line};
 
 use crate::making::{fabric_make, fabric_sweep};
@@ -27,7 +27,7 @@ fn do_command<R: Threads + Wait + Sync, S: Source, K: Sink, E: Sink, G: Gate + S
     err: &mut E,
     gate: &G,
 ) -> Status
-    requires { IsWithin command }
+    requires { HasSmallNumber command }
     ensures ends { CommandEnds command (S.source_view source.old) (S.source_view source.new) (K.sink_view out.old) (K.sink_view out.new) result }
     ensures err { Tells (E.sink_view err.old) (E.sink_view err.new) (status_line result) }
 {
@@ -55,7 +55,7 @@ pub fn fabric_main<R: Threads + Wait + Sync, S: Source, K: Sink, E: Sink, G: Gat
     err: &mut E,
     gate: &G,
 ) -> Status
-    ensures answers { Answers (map string_bytes words.now) (S.source_view source.old) (S.source_view source.new) (K.sink_view out.old) (K.sink_view out.new) result }
+    ensures answers { AnswersWords (map string_bytes words.now) (S.source_view source.old) (S.source_view source.new) (K.sink_view out.old) (K.sink_view out.new) result }
     ensures err { Tells (E.sink_view err.old) (E.sink_view err.new) (status_line result) }
 {
     match command_named(alloc, words) {
