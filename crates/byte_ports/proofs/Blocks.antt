@@ -5,7 +5,7 @@ use Rattle.std.proofs.Math.Seq.{take-append-add, take-add, take-length}
 use Rattle.std.specs.Prelude.{Option, Some, None, Result, Ok, Err}
 use Rattle.counts.specs.Raised.{HasRisen}
 use Rattle.byte_ports.specs.declared.Failed.{Failed}
-use Rattle.byte_ports.specs.Sinks.{SinkView, GoesOn, plus, Whole, Part, WritesFirst, WriteFails}
+use Rattle.byte_ports.specs.Sinks.{SinkView, IsAfterWrite, plus, Whole, Part, WritesFirst, WriteFails}
 use Rattle.byte_ports.specs.BlockSinks.{BlockSinkState, told_length, block_view_of, over, HandsOn, HandsOnPart, HandsOnSome, EndsAs}
 use Rattle.byte_ports.proofs.Joined.{whole_none, whole_then, goes_alone, goes_then, plus-plus, plus-none}
 
@@ -82,13 +82,13 @@ longer_told (Some written) text = omega (arith, length-append written text)
 -- a text that was told in part, and of which the last bytes are held back, is a part on the sink below
 part_below : (below after : SinkView) (held text : List ℕ) (upto : ℕ) → upto ≤ length text
     → plus after.written held ≡ plus (plus below.written []) (take upto text) → told_length below.written ≤ told_length after.written
-    → HasRisen below.faults after.faults → GoesOn below after → Part below after text
+    → HasRisen below.faults after.faults → IsAfterWrite below after → Part below after text
 part_below below after held text upto within told longer rose goes_on =
     let found = handed_part below.written after.written held text upto within told longer in
     record { upto = told_length after.written - told_length below.written; within = found.0; written = found.1; rose = rose; goes_on = goes_on }
 
 -- what goes on above goes on below
-goes_below : (below : SinkView) (room : ℕ) (state : BlockSinkState) → GoesOn (block_view_of (over below room)) (block_view_of state) → GoesOn below state.below
+goes_below : (below : SinkView) (room : ℕ) (state : BlockSinkState) → IsAfterWrite (block_view_of (over below room)) (block_view_of state) → IsAfterWrite below state.below
 goes_below below room state goes_on = record { faults = goes_on.faults; levels = λ n. goes_on.levels (suc n); reference = goes_on.reference }
 
 -- a text that was written in part is a part on the sink below
@@ -118,7 +118,7 @@ ended state after (Err _) handed below room text whole =
     (goes_then below state.below after.below (goes_below below room state whole.goes_on) handed.below.goes_on)
 
 -- what goes on below goes on above
-goes_above : (old new : BlockSinkState) → told_length old.below.written ≤ told_length new.below.written → GoesOn old.below new.below → GoesOn (block_view_of old) (block_view_of new)
+goes_above : (old new : BlockSinkState) → told_length old.below.written ≤ told_length new.below.written → IsAfterWrite old.below new.below → IsAfterWrite (block_view_of old) (block_view_of new)
 goes_above old new longer goes_on = record { faults = goes_on.faults; levels = level_by_level; reference = goes_on.reference }
   where
     level_by_level : (n : ℕ) → get_or (block_view_of old).levels n 0 ≤ get_or (block_view_of new).levels n 0

@@ -6,7 +6,7 @@ use Rattle.std.proofs.lemmas.Grind.{flat_map-append}
 use Rattle.std.specs.List.{flat_map}
 use Rattle.std.specs.Prelude.{Option, Some, None, Result, Ok, Err}
 use Rattle.byte_ports.specs.declared.Failed.{Failed}
-use Rattle.byte_ports.specs.Sinks.{SinkView, GoesOn, plus, Whole, Part, Writes}
+use Rattle.byte_ports.specs.Sinks.{SinkView, IsAfterWrite, plus, Whole, Part, Writes}
 
 -- a text after another is the two joined
 pub plus-plus : (written : Option (List ℕ)) (first second : List ℕ)
@@ -20,11 +20,11 @@ plus-none None = refl
 plus-none (Some written) = ap Some (sym (append-nil written))
 
 -- a sink that is left alone goes on as it is
-pub goes_alone : (old : SinkView) → GoesOn old old
+pub goes_alone : (old : SinkView) → IsAfterWrite old old
 goes_alone old = record { faults = omega arith; levels = λ n. omega arith; reference = refl }
 
 -- one write after another
-pub goes_then : (old between new : SinkView) → GoesOn old between → GoesOn between new → GoesOn old new
+pub goes_then : (old between new : SinkView) → IsAfterWrite old between → IsAfterWrite between new → IsAfterWrite old new
 goes_then old between new before after = record {
   faults = omega (arith, before.faults, after.faults);
   levels = λ n. omega (arith, before.levels n, after.levels n);

@@ -15,7 +15,7 @@ abbrev pub behind : ℕ → SinkView → SinkView
 behind reference sink = record sink { reference = reference }
 
 -- what every write leaves: the count of faults does not fall, nor what the sinks below tell, and the sink is behind the same reference
-pub record GoesOn (old new : SinkView) : Type 0 where
+pub record IsAfterWrite (old new : SinkView) : Type 0 where
   pub faults : old.faults ≤ new.faults
   pub levels : (n : ℕ) → slice_index_or old.levels n 0 ≤ slice_index_or new.levels n 0
   pub reference : new.reference ≡ old.reference
@@ -28,7 +28,7 @@ plus (Some written) text = Some (written ++ text)
 -- all of the text is appended
 pub record Whole (old new : SinkView) (text : List ℕ) : Type 0 where
   pub written : new.written ≡ plus old.written text
-  pub goes_on : GoesOn old new
+  pub goes_on : IsAfterWrite old new
 
 -- a fault came: the text's first bytes are appended, and the count rose
 pub record Part (old new : SinkView) (text : List ℕ) : Type 0 where
@@ -36,7 +36,7 @@ pub record Part (old new : SinkView) (text : List ℕ) : Type 0 where
   pub within : upto ≤ length text
   pub written : new.written ≡ plus old.written (take upto text)
   pub rose : HasRisen old.faults new.faults
-  pub goes_on : GoesOn old new
+  pub goes_on : IsAfterWrite old new
 
 -- what writing a whole text leaves
 abbrev pub Writes : SinkView → SinkView → List ℕ → Result (Unit {0}) Failed → Type 0
@@ -53,7 +53,7 @@ pub record WritesFirst (old new : SinkView) (piece : List ℕ) (count : ℕ) : T
 pub record WriteFails (old new : SinkView) : Type 0 where
   pub written : new.written ≡ old.written
   pub rose : HasRisen old.faults new.faults
-  pub goes_on : GoesOn old new
+  pub goes_on : IsAfterWrite old new
 
 -- what one write leaves
 abbrev pub WritesSome : SinkView → SinkView → List ℕ → Result ℕ Failed → Type 0

@@ -45,7 +45,7 @@ fn edited_node(
     ensures made { OnOk result (made.new ≡ one_node_more made.old) }
 {
     let parts = Parts {
-        props: node_table().merge(&node.props(), &change.rows),
+        props: node_table().merge(node.props(), &change.rows),
         label: label_after(node, change)?,
         ..node.with_children(node.children().share()?)?
     };

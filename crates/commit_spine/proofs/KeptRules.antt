@@ -10,7 +10,7 @@ use Rattle.tree_revision.specs.Ports.{BeginsWith}
 use Rattle.commit_spine.specs.declared.mark.SpineMark.{SpineMark}
 use Rattle.commit_spine.specs.Passes.{Turn, no_turn, look_turn, offer_turn, KeptByPass, times_own}
 use Rattle.commit_spine.specs.Stores.{Slot, HasStoreOf}
-use Rattle.commit_spine.specs.SpineRule.{SpineState, turn_bit, word_of, IsSeat, HasHome, HasTurn, FitsHistory, StandOnce, SpineHolds}
+use Rattle.commit_spine.specs.SpineRule.{SpineState, turn_bit, spine_word, IsSeat, HasHome, HasTurn, FitsHistory, StandOnce, SpineHolds}
 use Rattle.commit_spine.proofs.Begins.{begins_through}
 use Rattle.commit_spine.proofs.PassSums.{seat_is_below, sum_after_set, one_is_within}
 
@@ -56,7 +56,7 @@ module _ (mark : SpineMark) where
 
   pub rule_after : (state : SpineState) (rule : SpineHolds mark state) (seat : ℕ) (old new : KeptByPass) → get_elem? state.views seat ≡ maybe.some old
       → (history : List PlainRecord) (holder : Option ℕ) (words : List ℕ) (homes : List (maybe.Option Slot))
-      → words ≡ word_of history holder ∷ [] → HasHome mark homes history holder → IsKept state rule seat old new history holder
+      → words ≡ spine_word history holder ∷ [] → HasHome mark homes history holder → IsKept state rule seat old new history holder
       → SpineHolds mark (record { words = words; homes = homes; views = set state.views seat new })
   rule_after state rule seat old new at history holder words homes word home kept =
       let shares = sum_after_set (λ (u : KeptByPass). u.shares) state.views seat old new at in
@@ -86,7 +86,7 @@ module _ (mark : SpineMark) where
       let same : times_own number new.own ≡ times_own number old.own = ap (times_own number) own in
       omega (arith, sum, same, rule.own_records_stand_once number low high)
 
-  pub found_word : (state : SpineState) (rule : SpineHolds mark state) → slice_index state.words 0 ≡ word_of rule.history rule.holder
+  pub found_word : (state : SpineState) (rule : SpineHolds mark state) → slice_index state.words 0 ≡ spine_word rule.history rule.holder
   found_word state rule = ap (λ (words : List ℕ). slice_index words 0) rule.one_list
 
   pub found_number : (state : SpineState) (rule : SpineHolds mark state) → slice_index state.words 0 / 2 ≡ length rule.history
@@ -103,7 +103,7 @@ module _ (mark : SpineMark) where
   rule_after_find state rule seat old new at keeps floor =
       let fits = rule.each_pass_fits seat old at in
       let number = found_number state rule in
-      let word : set state.words 0 (slice_index state.words 0) ≡ word_of rule.history rule.holder ∷ [] =
+      let word : set state.words 0 (slice_index state.words 0) ≡ spine_word rule.history rule.holder ∷ [] =
       ap (λ (words : List ℕ). set words 0 (slice_index state.words 0)) rule.one_list ∙ ap (λ (n : ℕ). n ∷ []) (found_word state rule) in
       rule_after state rule seat old new at rule.history rule.holder _ state.homes word rule.store_stands_for_it record {
         lawful = rule.history_is_lawful;
@@ -127,7 +127,7 @@ module _ (mark : SpineMark) where
 
   -- a step that takes the store out of its slot, with the turn
   pub rule_after_take : (state : SpineState) (rule : SpineHolds mark state) (seat : ℕ) (old new : KeptByPass) (word : ℕ) (slot : Slot) → get_elem? state.views seat ≡ maybe.some old
-      → rule.holder ≡ None → word ≡ word_of rule.history (Some seat) → state.homes ≡ maybe.some slot ∷ []
+      → rule.holder ≡ None → word ≡ spine_word rule.history (Some seat) → state.homes ≡ maybe.some slot ∷ []
       → FitsHistory mark rule.history (Some seat) seat new → new.own ≡ old.own → new.permits ≡ old.permits → new.shares ≡ old.shares
       → SpineHolds mark (record { words = set state.words 0 word; homes = set state.homes 0 maybe.none; views = set state.views seat new })
   rule_after_take state rule seat old new word slot at free is home mine own permits shares =
@@ -165,7 +165,7 @@ module _ (mark : SpineMark) where
       → SpineHolds mark (record { words = set state.words 0 word; homes = set state.homes 0 (maybe.some slot); views = set state.views seat new })
   rule_after_give state rule seat old new history word slot at out longer is store lawful mine once shares permits =
       let home = empty_home state.homes rule.history rule.holder seat rule.store_stands_for_it out in
-      let free : word ≡ word_of history None = omega arith in
+      let free : word ≡ spine_word history None = omega arith in
       rule_after state rule seat old new at history None _ _
       (ap (λ (words : List ℕ). set words 0 word) rule.one_list ∙ ap (λ (n : ℕ). n ∷ []) free)
       (slot, ap (λ (homes : List (maybe.Option Slot)). set homes 0 (maybe.some slot)) home, store) record {

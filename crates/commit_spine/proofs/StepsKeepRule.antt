@@ -16,7 +16,7 @@ use Rattle.commit_spine.specs.declared.mark.SpineMark.{SpineMark}
 use Rattle.commit_spine.specs.Passes.{Turn, look_turn, offer_turn, history_kept, KeptByPass, times_own}
 use Rattle.commit_spine.specs.Stores.{Slot, HasStoreOf}
 use Rattle.commit_spine.specs.StepKinds.{after_load, after_load_for_look, after_take_for_look, after_lost_look, after_take_for_offer, after_lost_offer, after_answered_look, after_look_in_vain, after_admitted_offer}
-use Rattle.commit_spine.specs.SpineRule.{SpineState, turn_bit, word_of, HasTurn, StandOnce, SpineHolds}
+use Rattle.commit_spine.specs.SpineRule.{SpineState, turn_bit, spine_word, HasTurn, StandOnce, SpineHolds}
 use Rattle.commit_spine.specs.StepTells.{Hand, load_tells, load_for_look_tells, take_for_look_tells, take_for_offer_tells, answered_look_tells, look_in_vain_tells, admitted_offer_tells, compare_tells}
 use Rattle.commit_spine.proofs.Begins.{begins_with_itself, more_begins, begins_through, begins_whole, begins_among}
 use Rattle.commit_spine.proofs.OwnRecords.{one_if, added_stands, stand_later, stand_both, none_beyond, times_in_both}
@@ -83,7 +83,7 @@ module _ (mark : SpineMark) where
       let same : me.0.mark ≡ mark = fits.is_of_this_spine some in
       let shares = one_is_within (λ (u : KeptByPass). u.shares) state.views seat me.0 at in
       let permits = room_for_permits mark state rule seat me.0 at in
-      let word : set state.words 0 (slice_index state.words 0) ≡ word_of rule.history rule.holder ∷ [] =
+      let word : set state.words 0 (slice_index state.words 0) ≡ spine_word rule.history rule.holder ∷ [] =
       ap (λ (words : List ℕ). set words 0 (slice_index state.words 0)) rule.one_list ∙ ap (λ (n : ℕ). n ∷ []) (found_word mark state rule) in (
         me.0,
         keeps,

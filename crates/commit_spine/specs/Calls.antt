@@ -73,7 +73,7 @@ pub record IsAnsweredLook (old new : KeptByPass) (front : KeptRevision) : Type 0
       new ≡ after_answered_look (after_take_for_look (after_load_for_look old word) history) history
 
 -- a look took the turn, found no memory and gave the turn back
-pub record IsLookInVain (old new : KeptByPass) : Type 0 where
+pub record IsLookWithoutMemory (old new : KeptByPass) : Type 0 where
   pub history : List PlainRecord
   pub word : ℕ
   pub is_word : word ≡ length history + length history
@@ -91,7 +91,7 @@ pub record IsBusyLook (old new : KeptByPass) : Type 0 where
 abbrev pub IsLookOf : (old new : KeptByPass) → Result KeptRevision LookRefusal → Type 0
 IsLookOf old new (Ok front) = IsAnsweredLook old new front
 IsLookOf old new (Err LookBusy) = IsBusyLook old new
-IsLookOf old new (Err LookMemory) = IsLookInVain old new
+IsLookOf old new (Err LookMemory) = IsLookWithoutMemory old new
 
 -- the turn of a look: taken at the word of that number, or found to be out
 pub record TakesTurn (before : Hand) (number : ℕ) (after : Hand) : Type 0 where
@@ -111,7 +111,7 @@ IsTurnOf before after (Some number) = TakesTurn before number after
 IsTurnOf before after None = FindsTurnOut before after
 
 -- an offer is admitted: its exchange found the number seen with the turn free
-pub record IsAdmittedOffer (old new : KeptByPass) (entry : PlainRecord) (answer : ℕ) : Type 0 where
+pub record IsOfferTaken (old new : KeptByPass) (entry : PlainRecord) (answer : ℕ) : Type 0 where
   pub number : answer ≡ length old.seen + 1
   pub reached : old.floor ≤ length old.seen
   pub keeps : new ≡ after_admitted_offer (after_take_for_offer old old.seen) old.seen entry
@@ -122,7 +122,7 @@ pub record IsBusyOffer (old new : KeptByPass) : Type 0 where
   pub keeps : new ≡ after_lost_offer old (length old.seen + length old.seen + 1)
 
 -- an offer found a word of that number, which is above the number seen
-pub record IsLateOffer (old new : KeptByPass) (found : ℕ) : Type 0 where
+pub record IsOfferBehind (old new : KeptByPass) (found : ℕ) : Type 0 where
   pub word : ℕ
   pub is_word : found ≡ word / 2
   pub above : length old.seen < found
@@ -132,11 +132,11 @@ pub record IsLateOffer (old new : KeptByPass) (found : ℕ) : Type 0 where
 -- the answer of an offer; a refusal never took the turn, and hands both values back
 abbrev pub IsOfferOf : (old new : KeptByPass) → Record → KeptRevision
     → Result ℕ OfferRefusal → Type 0
-IsOfferOf old new entry next (Ok number) = IsAdmittedOffer old new (plain_record entry) number
+IsOfferOf old new entry next (Ok number) = IsOfferTaken old new (plain_record entry) number
 IsOfferOf old new entry next (Err (OfferBusy entry_back next_back)) =
     (entry_back ≡ entry) × (next_back ≡ next) × IsBusyOffer old new
 IsOfferOf old new entry next (Err (Behind found entry_back next_back)) =
-    (entry_back ≡ entry) × (next_back ≡ next) × IsLateOffer old new found
+    (entry_back ≡ entry) × (next_back ≡ next) × IsOfferBehind old new found
 
 -- a load of the number: some word was found, whose number is answered
 pub record IsNumberFound (old new : KeptByPass) (answer : ℕ) : Type 0 where

@@ -21,8 +21,8 @@ turn_bit None = 0
 turn_bit (Some seat) = 1
 
 -- the word of a history: twice its number, and one more where a seat has the turn
-abbrev pub word_of : List PlainRecord → (holder : Option ℕ) → ℕ
-word_of history holder = length history + length history + turn_bit holder
+abbrev pub spine_word : List PlainRecord → (holder : Option ℕ) → ℕ
+spine_word history holder = length history + length history + turn_bit holder
 
 -- who has the turn is one of so many seats
 abbrev pub IsSeat : (holder : Option ℕ) → (count : ℕ) → Type 0
@@ -84,7 +84,7 @@ StandOnce history passes =
 pub record SpineHolds (mark : SpineMark) (state : SpineState) : Type 0 where
   pub history : List PlainRecord
   pub holder : Option ℕ
-  pub one_list : state.words ≡ word_of history holder ∷ []
+  pub one_list : state.words ≡ spine_word history holder ∷ []
   pub history_is_lawful : IsLawful mark.first history
   pub store_stands_for_it : HasHome mark state.homes history holder
   pub one_pass_has_the_turn : IsSeat holder (length state.views)

@@ -1,19 +1,18 @@
 -- Two views are the same exactly where they are equal.
 use Rattle.std.proofs.Common.{true, ◌≡◌, ◌↔◌, IsTrue, Bool, Decides, refl, ap}
 use Rattle.std.specs.Prelude.{nat_eq}
-use Rattle.std.specs.Ordering.{int_eq}
 use Rattle.std.specs.Cmp.Lexicographic.{pointwise}
 use Rattle.std.proofs.lemmas.Bool.{false≢true}
-use Rattle.std.proofs.lemmas.Bool.Decides.{same_from_decides, Decides-eqb, Decides-int_eq, Decides-and}
+use Rattle.std.proofs.lemmas.Bool.Decides.{Decides-eqb, Decides-and}
 use Rattle.std.proofs.lemmas.Slice.Eq.{slice_eq-Decides}
-use Rattle.prop_table.specs.Props.{PropList}
 use Rattle.shadow_kinds.specs.declared.Kind.{Kind}
 use Rattle.shadow_kinds.specs.declared.Kind.TheVariants.{View, Text, Image, Scroll, Input}
 use Rattle.host_views.specs.declared.HostView.{HostView}
 use Rattle.shadow_frame.proofs.Same.{by_parts, same_options, same_frames}
 use Rattle.native_state.proofs.Same.{same_cells}
 use Rattle.native_state.specs.Same.{is_same_cell}
-use Rattle.host_views.specs.Same.{is_same_props, is_same_view}
+use Rattle.shadow_kinds.proofs.SameProps.{same_props}
+use Rattle.host_views.specs.Same.{is_same_view}
 use Rattle.shadow_kinds.specs.Words.{code_of}
 
 same_kinds : (a b : Kind) → Decides (nat_eq (code_of a) (code_of b)) (a ≡ b)
@@ -23,9 +22,6 @@ same_kinds Image Image = (λ e. refl, λ e. refl)
 same_kinds Scroll Scroll = (λ e. refl, λ e. refl)
 same_kinds Input Input = (λ e. refl, λ e. refl)
 same_kinds _ _ = (λ e. absurd (false≢true e), λ e. cc)
-
-same_props : (a b : PropList) → Decides (is_same_props a b) (a ≡ b)
-same_props a b = slice_eq-Decides (same_options int_eq Decides-int_eq) a b (is_same_props a b) refl
 
 -- the test of two views decides their equality
 pub same_views : (a b : HostView) → Decides (is_same_view a b) (a ≡ b)
@@ -48,7 +44,3 @@ same_itself a = (same_views a a).1 refl
 -- a test with that answer is true exactly where the views are equal
 pub told_same : (r : Bool) (a b : HostView) → r ≡ is_same_view a b → IsTrue r ↔ (a ≡ b)
 told_same r a b e = rw e (same_views a b)
-
--- a test that tells whether props are equal is the test of their rows
-pub props_answer : (a b : PropList) (answer : Bool) → Decides answer (a ≡ b) → answer ≡ is_same_props a b
-props_answer a b answer h = same_from_decides answer (is_same_props a b) h (same_props a b)

@@ -1,17 +1,12 @@
 -- When two views are the same, part by part.
 use Rattle.std.specs.Prelude.{Bool, ◌&&◌, nat_eq}
-use Rattle.std.specs.Ordering.{int_eq}
 use Rattle.std.specs.Cmp.Lexicographic.{pointwise}
 use Rattle.std.specs.Option.{option_eq}
 use Rattle.shadow_frame.specs.Same.{is_same_frame}
 use Rattle.native_state.specs.Same.{is_same_cell}
-use Rattle.prop_table.specs.Props.{PropList}
+use Rattle.shadow_kinds.specs.SameProps.{is_same_props}
 use Rattle.shadow_kinds.specs.Words.{code_of}
 use Rattle.host_views.specs.declared.HostView.{HostView}
-
--- the same number in each row
-abbrev pub is_same_props : PropList → PropList → Bool
-is_same_props a b = pointwise (option_eq int_eq) a b
 
 -- the same view: its kind, props, label, state and frame
 abbrev pub is_same_view : HostView → HostView → Bool

@@ -2,7 +2,7 @@
 #![tactic(auto)]
 
 ghost use Rattle.std.specs.Prelude.{◌≡◌, ◌↔◌, IsTrue};
-ghost use Rattle.host_views.specs.Same.{is_same_props, is_same_view};
+ghost use Rattle.host_views.specs.Same.{is_same_view};
 
 mod linked;
 mod links;
@@ -14,7 +14,7 @@ use native_state::StateCell;
 use prop_table::{Label, NodeProps};
 pub use registry::Registry;
 use shadow_frame::Rect;
-use shadow_kinds::Kind;
+use shadow_kinds::{Kind, have_same_rows};
 use sqlite_items::Items;
 use std::sync::Arc;
 
@@ -42,18 +42,11 @@ impl HostView {
         ensures { result ≡ is_same_view self.now other.now }
     {
         self.kind == other.kind
-            && are_same_props(&self.props, &other.props)
+            && have_same_rows(&self.props, &other.props)
             && self.label.bytes() == other.label.bytes()
             && self.state == other.state
             && self.frame == other.frame
     }
-}
-
-/// Whether each row is the same.
-fn are_same_props(a: &NodeProps, b: &NodeProps) -> bool
-    ensures { result ≡ is_same_props a.now b.now }
-{
-    a.is_same(b)
 }
 
 /// A shared view.

@@ -1,7 +1,7 @@
 -- An entry that is taken out of a page that is joined with a neighbour.
 use Rattle.std.proofs.Common.{◌≡◌, ℕ, ◌+◌, ◌≤◌, List, [], ◌∷◌, ◌++◌, length, sym, ap, subst, ◌∙◌, arith, append_assoc, append-nil, length-append, inl, inr}
 use Rattle.std.proofs.lemmas.Bool.{cases_lt}
-use Rattle.page_map.specs.Pages.{AreFew, AreHalfFull, ArePages, IsAround, IsPage, IsParted, Shared, cut, joined}
+use Rattle.page_map.specs.Pages.{AreFew, AreHalfFull, ArePages, IsAround, IsPage, IsParted, SharedPage, cut, joined}
 use Rattle.page_map.specs.Rising.{AreAbove, AreBelow, IsRising}
 use Rattle.page_map.proofs.Each.{each_left, each_right}
 use Rattle.page_map.proofs.Joined.{joined-push}
@@ -11,8 +11,8 @@ use Rattle.page_map.proofs.Cut.{cut-append, cut_below, cut_above, rising-cut, le
 module _ {V : Type 0} where
   -- ---- the page and its neighbour
 
-  module _ (pages : List (Shared V)) (tag : ℕ) (before : List (Shared V)) (here : List (ℕ × V)) (after : List (Shared V)) (parted : IsParted pages tag before here after) (few : AreFew pages) where
-    pub around_low : (front : List (Shared V)) (page : Shared V) → before ≡ front ++ page ∷ [] → IsAround pages tag front page.value here [] after
+  module _ (pages : List (SharedPage V)) (tag : ℕ) (before : List (SharedPage V)) (here : List (ℕ × V)) (after : List (SharedPage V)) (parted : IsParted pages tag before here after) (few : AreFew pages) where
+    pub around_low : (front : List (SharedPage V)) (page : SharedPage V) → before ≡ front ++ page ∷ [] → IsAround pages tag front page.value here [] after
     around_low front page is =
         let half : 2 ≤ length pages → AreHalfFull (front ++ page ∷ []) = λ two. subst AreHalfFull is (parted.before_half_full (few two)) in
         record {
@@ -29,7 +29,7 @@ module _ {V : Type 0} where
           alone = λ one. absurd (omega (arith, one, parted.others, ap length is, length-append front (page ∷ [])));
         }
 
-    pub around_high : (page : Shared V) (rest : List (Shared V)) → after ≡ page ∷ rest → IsAround pages tag before [] here page.value rest
+    pub around_high : (page : SharedPage V) (rest : List (SharedPage V)) → after ≡ page ∷ rest → IsAround pages tag before [] here page.value rest
     around_high page rest is =
         let half : 2 ≤ length pages → AreHalfFull (page ∷ rest) = λ two. subst AreHalfFull is (parted.after_half_full (few two)) in
         record {
@@ -63,7 +63,7 @@ module _ {V : Type 0} where
 
   -- ---- without the entry
 
-  module _ (pages : List (Shared V)) (tag : ℕ) (before : List (Shared V)) (low here high : List (ℕ × V)) (after : List (Shared V)) (around : IsAround pages tag before low here high after) (rises : IsRising (joined pages)) where
+  module _ (pages : List (SharedPage V)) (tag : ℕ) (before : List (SharedPage V)) (low here high : List (ℕ × V)) (after : List (SharedPage V)) (around : IsAround pages tag before low here high after) (rises : IsRising (joined pages)) where
     pub here_in_order : IsRising here
     here_in_order = rising_left here (high ++ joined after) (rising_right low (here ++ (high ++ joined after)) (rising_right (joined before) (low ++ (here ++ (high ++ joined after))) (subst IsRising around.whole rises)))
 
@@ -90,7 +90,7 @@ module _ {V : Type 0} where
     gathered_length : length (low ++ (cut tag here ++ high)) ≡ length low + length (cut tag here) + length high
     gathered_length = omega (arith, length-append low (cut tag here ++ high), length-append (cut tag here) high)
 
-    pub few_left : (first second all : List (Shared V)) (gathered : List (ℕ × V)) → gathered ≡ low ++ (cut tag here ++ high) → length first ≡ length before → (length gathered ≤ 64 → length second ≤ length first + 1) → length all ≡ length second + length after
+    pub few_left : (first second all : List (SharedPage V)) (gathered : List (ℕ × V)) → gathered ≡ low ++ (cut tag here ++ high) → length first ≡ length before → (length gathered ≤ 64 → length second ≤ length first + 1) → length all ≡ length second + length after
         → (AreHalfFull before → AreHalfFull first) → (32 ≤ length gathered → AreHalfFull first → AreHalfFull second) → (AreHalfFull second → AreHalfFull after → AreHalfFull all) → AreFew all
     few_left first second all gathered is first_count one all_count first_half second_half all_half many =
         let size = length_cut tag here here_in_order in

@@ -7,7 +7,7 @@ use Rattle.std.specs.Cmp.{nat_cmp_total, eq_by_cmp_equiv}
 use Rattle.std.specs.FinMap.{FinMap, find, get, from_sorted, remove, same_map, get-from_sorted, get-remove, nat_cmp-IsAntisymmetric}
 use Rattle.std.specs.FinMap.Entries.{find-where_key}
 use Rattle.page_map.specs.Entries.{IsCutFrom}
-use Rattle.page_map.specs.Pages.{IsCut, IsPage, IsParted, IsTable, Shared, cut, joined}
+use Rattle.page_map.specs.Pages.{IsCut, IsPage, IsParted, IsTable, SharedPage, cut, joined}
 use Rattle.page_map.specs.Rising.{AreAbove, AreBelow, AreFrom, Each, IsRising}
 use Rattle.page_map.proofs.Put.{joined_set, kept, table_set, half}
 use Rattle.page_map.proofs.Rising.{less, greater, equal, above_lower, rising_sorted}
@@ -116,7 +116,7 @@ module _ {V : Type 0} where
 
   -- ---- of the list of pages
 
-  module _ (pages : List (Shared V)) (count : ℕ) (table : IsTable pages count) (tag at : ℕ) (old new : Shared V) (lt : at < length pages) (parted : IsParted pages tag (take at pages) old.value (drop (at + 1) pages)) where
+  module _ (pages : List (SharedPage V)) (count : ℕ) (table : IsTable pages count) (tag at : ℕ) (old new : SharedPage V) (lt : at < length pages) (parted : IsParted pages tag (take at pages) old.value (drop (at + 1) pages)) where
     cut_parted : cut tag (joined (take at pages) ++ (old.value ++ joined (drop (at + 1) pages))) ≡ joined (take at pages) ++ (cut tag old.value ++ joined (drop (at + 1) pages))
     cut_parted =
         cut-append tag (joined (take at pages)) (old.value ++ joined (drop (at + 1) pages))

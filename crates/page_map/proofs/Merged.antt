@@ -5,7 +5,7 @@ use Rattle.std.specs.Ordering.{nat_cmp}
 use Rattle.std.specs.FinMap.{put, from_sorted}
 use Rattle.std.proofs.lemmas.List.{take_more}
 use Rattle.page_map.specs.Entries.{all_added}
-use Rattle.page_map.specs.Pages.{AreFew, AreHalfFull, ArePages, IsParted, Reaches, Shared, all_put, joined}
+use Rattle.page_map.specs.Pages.{AreFew, AreHalfFull, ArePages, IsParted, Reaches, SharedPage, all_put, joined}
 use Rattle.page_map.specs.Rising.{AreAbove, AreBelow, Each, IsRising}
 use Rattle.page_map.proofs.Each.{each_left, each_right, each_with, each-append}
 use Rattle.page_map.proofs.Joined.{above_rises, half_full_none, some_reaches}
@@ -101,7 +101,7 @@ module _ {V : Type 0} where
 
   -- ---- one more page
 
-  module _ (left below above : List (Shared V)) (here rest mine later : List (ℕ × V)) (e : ℕ × V) (others : List (ℕ × V)) (parted : IsParted left e.0 below here above) (left_rises : IsRising (joined left)) (first : rest ≡ e ∷ others) (rest_rises : IsRising rest) (cut : rest ≡ mine ++ later) (low : Each (λ x. AreAbove x.0 (joined above)) mine) (high : Each (λ x. Reaches above x.0) later) where
+  module _ (left below above : List (SharedPage V)) (here rest mine later : List (ℕ × V)) (e : ℕ × V) (others : List (ℕ × V)) (parted : IsParted left e.0 below here above) (left_rises : IsRising (joined left)) (first : rest ≡ e ∷ others) (rest_rises : IsRising rest) (cut : rest ≡ mine ++ later) (low : Each (λ x. AreAbove x.0 (joined above)) mine) (high : Each (λ x. Reaches above x.0) later) where
     all_rises : IsRising (joined below ++ (here ++ joined above))
     all_rises = subst IsRising parted.whole left_rises
 
@@ -143,7 +143,7 @@ module _ {V : Type 0} where
         some (x ∷ xs) cut = omega arith
 
   -- where pages are what is made so far, left the pages that are left, and rest what is left of the list
-  pub record IsPlacing (old : List (Shared V)) (new : List (ℕ × V)) (pages left : List (Shared V)) (rest : List (ℕ × V)) : Type 0 where
+  pub record IsPlacing (old : List (SharedPage V)) (new : List (ℕ × V)) (pages left : List (SharedPage V)) (rest : List (ℕ × V)) : Type 0 where
     pub put : joined pages ++ all_put (joined left) rest ≡ all_put (joined old) new
     pub are_pages : ArePages pages
     pub are_left : ArePages left
@@ -155,7 +155,7 @@ module _ {V : Type 0} where
     pub half_full : 2 ≤ length pages + length left → AreHalfFull pages × AreHalfFull left
     pub some_left : 1 ≤ length rest → 1 ≤ length pages → 1 ≤ length left
 
-  pub placing_none : (old : List (Shared V)) (new : List (ℕ × V)) → ArePages old → AreFew old → IsRising (joined old) → AreBelow (2 ^ 32) (joined old) → IsRising new → IsPlacing old new [] old new
+  pub placing_none : (old : List (SharedPage V)) (new : List (ℕ × V)) → ArePages old → AreFew old → IsRising (joined old) → AreBelow (2 ^ 32) (joined old) → IsRising new → IsPlacing old new [] old new
   placing_none old new are few rises in_range new_rises = record {
     put = refl;
     are_pages = tt;
@@ -170,7 +170,7 @@ module _ {V : Type 0} where
   }
 
   -- one more page is as full as those before it, or the only one
-  module _ (pages left below above now : List (Shared V)) (here entries : List (ℕ × V)) (e : ℕ × V) (parted : IsParted left e.0 below here above) (were : 2 ≤ length pages + length left → AreHalfFull pages × AreHalfFull left) (some_left : 1 ≤ length pages → 1 ≤ length left) (wider : length here ≤ length entries) (one : length entries ≤ 64 → length now ≡ length pages + length below + 1) (half : 32 ≤ length entries → AreHalfFull pages → AreHalfFull below → AreHalfFull now) where
+  module _ (pages left below above now : List (SharedPage V)) (here entries : List (ℕ × V)) (e : ℕ × V) (parted : IsParted left e.0 below here above) (were : 2 ≤ length pages + length left → AreHalfFull pages × AreHalfFull left) (some_left : 1 ≤ length pages → 1 ≤ length left) (wider : length here ≤ length entries) (one : length entries ≤ 64 → length now ≡ length pages + length below + 1) (half : 32 ≤ length entries → AreHalfFull pages → AreHalfFull below → AreHalfFull now) where
     -- none was left but the one that became more
     some_more : 2 ≤ length now → length pages ≡ 0 → length below ≡ 0 → 32 ≤ length entries
     some_more many none none_below =
@@ -212,7 +212,7 @@ module _ {V : Type 0} where
               (half wide all.0 (parted.before_half_full all.1), parted.after_half_full all.1)
         ]
 
-  pub placing_more : (old : List (Shared V)) (new : List (ℕ × V)) (pages left : List (Shared V)) (rest : List (ℕ × V)) (was : IsPlacing old new pages left rest) (below above : List (Shared V)) (here mine later : List (ℕ × V)) (e : ℕ × V) (others : List (ℕ × V)) → IsParted left e.0 below here above → rest ≡ e ∷ others → rest ≡ mine ++ later → Each (λ x. AreAbove x.0 (joined above)) mine → Each (λ x. Reaches above x.0) later → AreBelow (2 ^ 32) mine → (now : List (Shared V)) → joined now ≡ (joined pages ++ joined below) ++ all_put here mine → ArePages now
+  pub placing_more : (old : List (SharedPage V)) (new : List (ℕ × V)) (pages left : List (SharedPage V)) (rest : List (ℕ × V)) (was : IsPlacing old new pages left rest) (below above : List (SharedPage V)) (here mine later : List (ℕ × V)) (e : ℕ × V) (others : List (ℕ × V)) → IsParted left e.0 below here above → rest ≡ e ∷ others → rest ≡ mine ++ later → Each (λ x. AreAbove x.0 (joined above)) mine → Each (λ x. Reaches above x.0) later → AreBelow (2 ^ 32) mine → (now : List (SharedPage V)) → joined now ≡ (joined pages ++ joined below) ++ all_put here mine → ArePages now
       → (length (all_put here mine) ≤ 64 → length now ≡ length pages + length below + 1) → (32 ≤ length (all_put here mine) → AreHalfFull pages → AreHalfFull below → AreHalfFull now)
       → IsPlacing old new now above later
   placing_more old new pages left rest was below above here mine later e others parted first cut low high mine_in_range now is are one half =

@@ -11,7 +11,7 @@ use Rattle.std.specs.List.Sorted.{IsPartitionPoint}
 use Rattle.std.proofs.lemmas.Bool.{cases_lt}
 use Rattle.std.proofs.lemmas.List.{length-set, take_more}
 use Rattle.page_map.specs.Entries.{IsPutIn}
-use Rattle.page_map.specs.Pages.{ArePages, IsPage, IsParted, IsPut, IsTable, Shared, joined}
+use Rattle.page_map.specs.Pages.{ArePages, IsPage, IsParted, IsPut, IsTable, SharedPage, joined}
 use Rattle.page_map.specs.Rising.{AreBelow, AreFrom, Each, IsRising}
 use Rattle.page_map.proofs.Joined.{parted_first, parted_last, starts_by}
 use Rattle.page_map.proofs.Rising.{less, greater, equal, length-put, rising-put, each-put, from_sorted-put, put_after, put_before}
@@ -48,7 +48,7 @@ module _ {V : Type 0} where
 
   -- ---- the page that a tag belongs in
 
-  pub page_parted : (tag : ℕ) (pages : List (Shared V)) (i r : ℕ) → ArePages pages → IsRising (joined pages) → IsPartitionPoint (λ page. starts_by tag page ≡ true) (λ page. starts_by tag page ≡ false) pages i → 1 ≤ length pages → r < length pages → r ≡ i - 1 → (page : Shared V) → IsParted pages tag (take r pages) (get_or pages r page).value (drop (r + 1) pages)
+  pub page_parted : (tag : ℕ) (pages : List (SharedPage V)) (i r : ℕ) → ArePages pages → IsRising (joined pages) → IsPartitionPoint (λ page. starts_by tag page ≡ true) (λ page. starts_by tag page ≡ false) pages i → 1 ≤ length pages → r < length pages → r ≡ i - 1 → (page : SharedPage V) → IsParted pages tag (take r pages) (get_or pages r page).value (drop (r + 1) pages)
   page_parted tag pages i r are rises split some lt is page =
       elim (cases_lt i 1) [
         | inl none ↦ let at : i ≡ 0 = omega arith in let first : 0 ≡ r = omega (arith, is) in
@@ -57,13 +57,13 @@ module _ {V : Type 0} where
             parted_last tag pages (r + 1) (take (r + 1) pages) (drop (r + 1) pages) are rises (subst (IsPartitionPoint (λ page. starts_by tag page ≡ true) (λ page. starts_by tag page ≡ false) pages) at split) refl refl (take r pages) (get_or pages r page) (take_more pages r page lt)
       ]
     where
-      first_page : (pages : List (Shared V)) → ArePages pages → IsRising (joined pages) → IsPartitionPoint (λ page. starts_by tag page ≡ true) (λ page. starts_by tag page ≡ false) pages 0 → 1 ≤ length pages → IsParted pages tag (take 0 pages) (get_or pages 0 page).value (drop (0 + 1) pages)
+      first_page : (pages : List (SharedPage V)) → ArePages pages → IsRising (joined pages) → IsPartitionPoint (λ page. starts_by tag page ≡ true) (λ page. starts_by tag page ≡ false) pages 0 → 1 ≤ length pages → IsParted pages tag (take 0 pages) (get_or pages 0 page).value (drop (0 + 1) pages)
       first_page [] are rises split some = absurd (omega arith)
       first_page (p ∷ rest) are rises split some = parted_first tag (p ∷ rest) 0 [] (p ∷ rest) are rises split refl refl p rest refl refl
 
   -- ---- in the list of pages
 
-  pub joined_set : (pages : List (Shared V)) (at : ℕ) (new : Shared V) → at < length pages → joined (slice_set pages at new) ≡ joined (take at pages) ++ (new.value ++ joined (drop (at + 1) pages))
+  pub joined_set : (pages : List (SharedPage V)) (at : ℕ) (new : SharedPage V) → at < length pages → joined (slice_set pages at new) ≡ joined (take at pages) ++ (new.value ++ joined (drop (at + 1) pages))
   joined_set [] at new lt = absurd (omega arith)
   joined_set (page ∷ pages) zero new lt = refl
   joined_set (page ∷ pages) (suc at) new lt =
@@ -71,7 +71,7 @@ module _ {V : Type 0} where
       subst (λ n. page.value ++ joined (slice_set pages at new) ≡ (page.value ++ joined (take at pages)) ++ (new.value ++ joined (drop n (page ∷ pages)))) later (ap (λ es. page.value ++ es) (joined_set pages at new (omega arith)) ∙ sym (append_assoc page.value (joined (take at pages)) (new.value ++ joined (drop (at + 1) pages))))
 
   -- a page takes the place of the one that a tag belongs in
-  module _ (pages : List (Shared V)) (count : ℕ) (table : IsTable pages count) (tag at : ℕ) (old new : Shared V) (lt : at < length pages) (parted : IsParted pages tag (take at pages) old.value (drop (at + 1) pages)) where
+  module _ (pages : List (SharedPage V)) (count : ℕ) (table : IsTable pages count) (tag at : ℕ) (old new : SharedPage V) (lt : at < length pages) (parted : IsParted pages tag (take at pages) old.value (drop (at + 1) pages)) where
     pub kept : new.value ≡ old.value → joined (slice_set pages at new) ≡ joined pages
     kept same = joined_set pages at new lt ∙ ap (λ es. joined (take at pages) ++ (es ++ joined (drop (at + 1) pages))) same ∙ sym parted.whole
 
@@ -145,16 +145,16 @@ module _ {V : Type 0} where
   same_length : (tag : ℕ) (w : V) (es : List (ℕ × V)) (at : ℕ) → AreBelow tag (take at es) → at < length es → ((entry : ℕ × V) → (get_or es at entry).0 ≡ tag) → length (put nat_cmp tag w es) ≡ length es
   same_length tag w es at below lt there = sym (ap length (put_there tag w es at tag below lt refl there)) ∙ length-set es at (tag, w)
 
-  pub table_lent : (pages : List (Shared V)) (count : ℕ) → IsTable pages count → (tag at : ℕ) (old new : Shared V) → at < length pages → IsParted pages tag (take at pages) old.value (drop (at + 1) pages) → tag < 2 ^ 32 → (es : List (ℕ × V)) (place : ℕ) → es ≡ old.value → IsPage es → AreBelow tag (take place es) → place < length es → ((entry : ℕ × V) → (get_or es place entry).0 ≡ tag) → (w : V) → new.value ≡ put nat_cmp tag w es → IsTable (slice_set pages at new) count
+  pub table_lent : (pages : List (SharedPage V)) (count : ℕ) → IsTable pages count → (tag at : ℕ) (old new : SharedPage V) → at < length pages → IsParted pages tag (take at pages) old.value (drop (at + 1) pages) → tag < 2 ^ 32 → (es : List (ℕ × V)) (place : ℕ) → es ≡ old.value → IsPage es → AreBelow tag (take place es) → place < length es → ((entry : ℕ × V) → (get_or es place entry).0 ≡ tag) → (w : V) → new.value ≡ put nat_cmp tag w es → IsTable (slice_set pages at new) count
   table_lent pages count table tag at old new lt parted small es place same page below inside there w is =
       let size = same_length tag w es place below inside there in
       table_put pages count table tag at old new lt parted w small count (rw is (page_put tag w es page (omega (arith, size, page.has_room)))) (omega (arith, ap length is, size, ap length same)) {E = Unit {0}} (Ok None) (is ∙ ap (put nat_cmp tag w) same)
 
-  pub map_lent : (pages : List (Shared V)) (count : ℕ) (map : FinMap nat_cmp V) → IsTable pages count → from_sorted (joined pages) ≡ map → (tag at : ℕ) (old new : Shared V) → at < length pages → IsParted pages tag (take at pages) old.value (drop (at + 1) pages) → (es : List (ℕ × V)) → es ≡ old.value → (w : V) → new.value ≡ put nat_cmp tag w es → from_sorted (joined (slice_set pages at new)) ≡ finite.insert map tag w
+  pub map_lent : (pages : List (SharedPage V)) (count : ℕ) (map : FinMap nat_cmp V) → IsTable pages count → from_sorted (joined pages) ≡ map → (tag at : ℕ) (old new : SharedPage V) → at < length pages → IsParted pages tag (take at pages) old.value (drop (at + 1) pages) → (es : List (ℕ × V)) → es ≡ old.value → (w : V) → new.value ≡ put nat_cmp tag w es → from_sorted (joined (slice_set pages at new)) ≡ finite.insert map tag w
   map_lent pages count map table view tag at old new lt parted es same w is =
       ap (from_sorted {R = nat_cmp}) (put_all pages count table tag at old new lt parted w (is ∙ ap (put nat_cmp tag w) same)) ∙ from_sorted-put tag w (joined pages) table.rises ∙ ap (λ map. finite.insert map tag w) view
 
-  module _ (pages : List (Shared V)) (count : ℕ) (table : IsTable pages count) (tag at : ℕ) (old new : Shared V) (lt : at < length pages) (parted : IsParted pages tag (take at pages) old.value (drop (at + 1) pages)) (same : new.value ≡ old.value) where
+  module _ (pages : List (SharedPage V)) (count : ℕ) (table : IsTable pages count) (tag at : ℕ) (old new : SharedPage V) (lt : at < length pages) (parted : IsParted pages tag (take at pages) old.value (drop (at + 1) pages)) (same : new.value ≡ old.value) where
     pub table_same : IsPage new.value → IsTable (slice_set pages at new) count
     table_same page =
         table_set pages count table tag at old new lt parted count page (λ two. omega (arith, half pages count table tag at old new lt parted two, ap length same)) (rw (kept pages count table tag at old new lt parted same) table.rises) (rw (kept pages count table tag at old new lt parted same) table.in_range) (omega (arith, ap length same))

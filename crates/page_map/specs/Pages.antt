@@ -9,7 +9,7 @@ use Rattle.std.specs.declared.alloc.Global.{Global}
 use Rattle.page_map.specs.Rising.{Each, AreAbove, AreBelow, IsRising}
 
 -- what stands whatever the answer: the count never falls, and rises by at most that much
-pub record IsWithin (before after most : ℕ) : Type 0 where
+pub record RisesWithin (before after most : ℕ) : Type 0 where
   pub never_falls : before ≤ after
   pub at_most : after ≤ before + most
 
@@ -25,23 +25,23 @@ pub record IsPage {V : Type 0} (entries : List (ℕ × V)) : Type 0 where
   pub has_room : length entries ≤ 64
 
 -- a shared page
-abbrev pub Shared : Type 0 → Type 0
-Shared V = Arc (List (ℕ × V)) Global
+abbrev pub SharedPage : Type 0 → Type 0
+SharedPage V = Arc (List (ℕ × V)) Global
 
 -- each is a page
-abbrev pub ArePages : {V : Type 0} → List (Shared V) → Type 0
+abbrev pub ArePages : {V : Type 0} → List (SharedPage V) → Type 0
 ArePages = Each (λ page. IsPage page.value)
 
 -- each page holds 32 entries or more
-abbrev pub AreHalfFull : {V : Type 0} → List (Shared V) → Type 0
+abbrev pub AreHalfFull : {V : Type 0} → List (SharedPage V) → Type 0
 AreHalfFull = Each (λ page. 32 ≤ length page.value)
 
 -- pages are few for what they hold: where there are two or more, each is half full
-abbrev pub AreFew : {V : Type 0} → List (Shared V) → Type 0
+abbrev pub AreFew : {V : Type 0} → List (SharedPage V) → Type 0
 AreFew pages = 2 ≤ length pages → AreHalfFull pages
 
 -- the entries of all pages, in their order
-abbrev pub joined : {V : Type 0} → List (Shared V) → List (ℕ × V)
+abbrev pub joined : {V : Type 0} → List (SharedPage V) → List (ℕ × V)
 joined [] = []
 joined (page ∷ pages) = page.value ++ joined pages
 
@@ -51,12 +51,12 @@ first_tag [] = 0
 first_tag (entry ∷ entries) = entry.0
 
 -- the pages of a list that may be left out
-abbrev pub listed : {V : Type 0} → Option (Arc (Vec (Shared V) Global) Global) → List (Shared V)
+abbrev pub listed : {V : Type 0} → Option (Arc (Vec (SharedPage V) Global) Global) → List (SharedPage V)
 listed None = []
 listed (Some pages) = pages.value.items
 
 -- a table's pages, all tags of one below those of the next, and how many entries they hold
-pub record IsTable {V : Type 0} (pages : List (Shared V)) (count : ℕ) : Type 0 where
+pub record IsTable {V : Type 0} (pages : List (SharedPage V)) (count : ℕ) : Type 0 where
   pub are_pages : ArePages pages
   pub few : AreFew pages
   pub rises : IsRising (joined pages)
@@ -64,7 +64,7 @@ pub record IsTable {V : Type 0} (pages : List (Shared V)) (count : ℕ) : Type 0
   pub counted : count ≡ length (joined pages)
 
 -- the pages of a map
-pub record IsTableOf {V : Type 0} (map : FinMap nat_cmp V) (pages : List (Shared V)) : Type 0 where
+pub record IsTableOf {V : Type 0} (map : FinMap nat_cmp V) (pages : List (SharedPage V)) : Type 0 where
   pub are_pages : ArePages pages
   pub few : AreFew pages
   pub rises : IsRising (joined pages)
@@ -72,7 +72,7 @@ pub record IsTableOf {V : Type 0} (map : FinMap nat_cmp V) (pages : List (Shared
   pub is : from_sorted (joined pages) ≡ map
 
 -- pages parted at a tag: those below it, the entries of the page that it belongs in, and those above it
-pub record IsParted {V : Type 0} (pages : List (Shared V)) (tag : ℕ) (before : List (Shared V)) (here : List (ℕ × V)) (after : List (Shared V)) : Type 0 where
+pub record IsParted {V : Type 0} (pages : List (SharedPage V)) (tag : ℕ) (before : List (SharedPage V)) (here : List (ℕ × V)) (after : List (SharedPage V)) : Type 0 where
   pub whole : joined pages ≡ joined before ++ (here ++ joined after)
   pub below : AreBelow tag (joined before)
   pub above : AreAbove tag (joined after)
@@ -85,11 +85,11 @@ pub record IsParted {V : Type 0} (pages : List (Shared V)) (tag : ℕ) (before :
   pub half_full : AreHalfFull pages → 1 ≤ length pages → 32 ≤ length here
 
 -- the tag is above some tag of the pages, or the same: each number that is below all of theirs is below it
-abbrev pub Reaches : {V : Type 0} → List (Shared V) → ℕ → Type 0
+abbrev pub Reaches : {V : Type 0} → List (SharedPage V) → ℕ → Type 0
 Reaches pages tag = (low : ℕ) → AreAbove low (joined pages) → low < tag
 
 -- the entries of a list are in that many pages: the same entries in their order, and as few pages
-pub record IsCopy {V : Type 0} (old new : List (Shared V)) : Type 0 where
+pub record IsCopy {V : Type 0} (old new : List (SharedPage V)) : Type 0 where
   pub joined : joined new ≡ joined old
   pub are_pages : ArePages new
   pub few : AreFew old → AreFew new
@@ -115,7 +115,7 @@ IsCut old new tag (Ok done) = IsCutWhere old new tag done
 IsCut old new tag (Err e) = new ≡ old
 
 -- pages parted round the one that a tag belongs in, with the entries of that page between those of one neighbour
-pub record IsAround {V : Type 0} (pages : List (Shared V)) (tag : ℕ) (before : List (Shared V)) (low here high : List (ℕ × V)) (after : List (Shared V)) : Type 0 where
+pub record IsAround {V : Type 0} (pages : List (SharedPage V)) (tag : ℕ) (before : List (SharedPage V)) (low here high : List (ℕ × V)) (after : List (SharedPage V)) : Type 0 where
   pub whole : joined pages ≡ joined before ++ (low ++ (here ++ (high ++ joined after)))
   pub below : AreBelow tag (joined before ++ low)
   pub above : AreAbove tag (high ++ joined after)

@@ -1,7 +1,7 @@
 //! Changes in place: a page, or the list of them, is copied only where it has another owner.
 
 ghost use Rattle.std.specs.Prelude.{◌≡◌, ◌+◌, ◌<◌, ◌≤◌, ◌^◌, length, get_or, take, drop, OnOk};
-ghost use Rattle.page_map.specs.Pages.{ArePages, IsCopy, IsCut, IsPage, IsParted, IsPut, IsTable, Shared, joined};
+ghost use Rattle.page_map.specs.Pages.{ArePages, IsCopy, IsCut, IsPage, IsParted, IsPut, IsTable, SharedPage, joined};
 ghost use Rattle.page_map.specs.Rising.{IsRising};
 
 use crate::Share;
@@ -41,7 +41,7 @@ pub(crate) fn page_place<V>(pages: &[PageRef<V>], tag: u32) -> usize
     requires rises { IsRising (joined pages.now) }
     requires some { 1 ≤ length pages.now }
     ensures place { result < length pages.now }
-    ensures parted { (page : Shared V) → IsParted pages.now tag (take result pages.now) (get_or pages.now result page).value (drop (result + 1) pages.now) }
+    ensures parted { (page : SharedPage V) → IsParted pages.now tag (take result pages.now) (get_or pages.now result page).value (drop (result + 1) pages.now) }
 {
     pages
         .partition_point(|page| page.first_tag() <= tag)

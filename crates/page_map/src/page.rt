@@ -5,7 +5,7 @@ ghost use Rattle.std.specs.Option.{option_copied};
 ghost use Rattle.std.specs.FinMap.{find, put};
 ghost use Rattle.std.specs.Ordering.{nat_cmp};
 ghost use Rattle.counts.specs.Raised.{raised};
-ghost use Rattle.page_map.specs.Pages.{AreFew, AreHalfFull, ArePages, IsCutWhere, IsPage, IsParted, IsPut, IsWithin, Reaches, all_put, cut, first_tag, joined};
+ghost use Rattle.page_map.specs.Pages.{AreFew, AreHalfFull, ArePages, IsCutWhere, IsPage, IsParted, IsPut, RisesWithin, Reaches, all_put, cut, first_tag, joined};
 ghost use Rattle.page_map.specs.Rising.{AreAbove, AreBelow, AreFrom, Each, IsRising};
 
 use crate::Share;
@@ -320,7 +320,7 @@ fn push_page<V: Share>(
     ensures count { OnOk result (length pages.new.items ≡ length pages.old.items + 1) }
     ensures half_full { OnOk result (32 ≤ length entries.items → AreHalfFull pages.old.items → AreHalfFull pages.new.items) }
     ensures counted { OnOk result (count.new ≡ raised count.old (length entries.items)) }
-    ensures within { IsWithin count.old count.new (length entries.items) }
+    ensures within { RisesWithin count.old count.new (length entries.items) }
 {
     pages.push(Page::make(alloc, count, entries)?)?;
     Ok(())
@@ -342,7 +342,7 @@ pub(crate) fn push_parted<V: Share>(
     ensures one { OnOk result (length entries.items ≤ 64 → length pages.new.items ≡ length pages.old.items + 1) }
     ensures half_full { OnOk result (32 ≤ length entries.items → AreHalfFull pages.old.items → AreHalfFull pages.new.items) }
     ensures counted { OnOk result (count.new ≡ raised count.old (length entries.items)) }
-    ensures within { IsWithin count.old count.new (length entries.items) }
+    ensures within { RisesWithin count.old count.new (length entries.items) }
 {
     if entries.len() <= 64 {
         push_page(alloc, count, pages, entries)
@@ -365,7 +365,7 @@ fn push_shared<V: Share>(
     ensures pages { OnOk result (ArePages pages.new.items) }
     ensures half_full { OnOk result (AreHalfFull pages.old.items → AreHalfFull pages.new.items) }
     ensures counted { OnOk result (count.new ≡ raised count.old (length entries.now)) }
-    ensures within { IsWithin count.old count.new (length entries.now) }
+    ensures within { RisesWithin count.old count.new (length entries.now) }
 {
     let mut rest = entries;
     while rest.len() > 64 {
@@ -407,7 +407,7 @@ pub(crate) fn pages_with<V: Share>(
     ensures few { IfOk result (λ pages. AreFew pages.items) }
     ensures in_range { IfOk result (λ pages. AreBelow (2 ^ 32) (joined pages.items)) }
     ensures counted { OnOk result (raised count.old (length new.now) ≤ count.new) }
-    ensures within { IsWithin count.old count.new (65 * length new.now) }
+    ensures within { RisesWithin count.old count.new (65 * length new.now) }
 {
     let mut pages = Vec::new(alloc);
     let mut left = kept;

@@ -4,7 +4,7 @@ use Rattle.std.proofs.Math.Seq.{take-suc}
 use Rattle.prop_table.specs.Props.{PropList}
 use Rattle.prop_table.specs.Table.{RowRule, IsInRow, AreInRows}
 use Rattle.prop_table.specs.Rules.{rule_at}
-use Rattle.prop_table.specs.Edits.{EditList, named_at, merged, edited, IsEditInRow, AreEditsInRows}
+use Rattle.prop_table.specs.Edits.{EditList, named_at, merged, with_edit, IsEditInRow, AreEditsInRows}
 
 -- an edit that ends before the first row names none
 pub merged-empty : (props : PropList) → merged props [] ≡ props
@@ -12,7 +12,7 @@ merged-empty [] = refl
 merged-empty (value ∷ values) = refl
 
 -- one more row of an edit
-pub merged-more : (props : PropList) (edit : EditList) (named : Option (Option ℤ)) → merged props (edit ++ named ∷ []) ≡ edited (merged props edit) (length edit) named
+pub merged-more : (props : PropList) (edit : EditList) (named : Option (Option ℤ)) → merged props (edit ++ named ∷ []) ≡ with_edit (merged props edit) (length edit) named
 merged-more [] edit None = refl
 merged-more [] edit (Some value) = refl
 merged-more (v ∷ vs) [] None = ap (λ rest. v ∷ rest) (merged-empty vs)
@@ -22,7 +22,7 @@ merged-more (v ∷ vs) (e ∷ es) (Some value) = ap (λ rest. unwrap_or e v ∷ 
 
 -- one more row of an edit that is read
 pub merged-step : (props : PropList) (edit : EditList) (row : ℕ) (named : Option (Option ℤ)) → row < length edit → named ≡ named_at edit row
-    → edited (merged props (take row edit)) row named ≡ merged props (take (row + 1) edit)
+    → with_edit (merged props (take row edit)) row named ≡ merged props (take (row + 1) edit)
 merged-step props edit row named h e =
     let count : length (take row edit) ≡ row = length-take-le row edit (omega arith) in
     let more : take (row + 1) edit ≡ take row edit ++ named_at edit row ∷ [] = rw add-one (take-suc edit row None h) in

@@ -7,14 +7,14 @@ use lib.Pointwise.{pointwise}
 use Rattle.std.proofs.lemmas.Bool.Decides.{Decides-and, Decides-like, Decides-at}
 use Rattle.std.proofs.lemmas.Slice.Eq.{slice_eq-Decides}
 use Rattle.prop_table.specs.Props.{PropList}
-use Rattle.prop_table.specs.Joined.{joined}
+use Rattle.prop_table.specs.Joined.{zipped}
 use Rattle.prop_table.specs.Slots.{number_if, number_or_zero}
 use Rattle.prop_table.proofs.Slots.{number_back}
 
 -- a list is given back by what is kept of it in two lists
-joined-kept : {A B C : Type 0} (f : A → B → C) (p : C → A) (q : C → B) → ((c : C) → f (p c) (q c) ≡ c) → (cs : List C) → joined f (map p cs) (map q cs) ≡ cs
-joined-kept f p q back [] = refl
-joined-kept f p q back (c ∷ cs) = ap (λ rest. f (p c) (q c) ∷ rest) (joined-kept f p q back cs) ∙ ap (λ d. d ∷ cs) (back c)
+zipped-kept : {A B C : Type 0} (f : A → B → C) (p : C → A) (q : C → B) → ((c : C) → f (p c) (q c) ≡ c) → (cs : List C) → zipped f (map p cs) (map q cs) ≡ cs
+zipped-kept f p q back [] = refl
+zipped-kept f p q back (c ∷ cs) = ap (λ rest. f (p c) (q c) ∷ rest) (zipped-kept f p q back cs) ∙ ap (λ d. d ∷ cs) (back c)
 
 -- two lists are the same exactly where what is kept of them is
 pub kept-Decides : {A B C : Type 0} {E : A → A → Bool} {F : B → B → Bool} (f : A → B → C) (p : C → A) (q : C → B) → ((c : C) → f (p c) (q c) ≡ c)
@@ -22,7 +22,7 @@ pub kept-Decides : {A B C : Type 0} {E : A → A → Bool} {F : B → B → Bool
     → (cs ds : List C) → Decides (pointwise E (map p cs) (map p ds) && pointwise F (map q cs) (map q ds)) (cs ≡ ds)
 kept-Decides {E = E} {F = F} f p q back e g cs ds =
     Decides-like (pointwise E (map p cs) (map p ds) && pointwise F (map q cs) (map q ds))
-    (λ h. sym (joined-kept f p q back cs) ∙ ap (λ l. joined f l (map q cs)) h.0 ∙ ap (λ l. joined f (map p ds) l) h.1 ∙ joined-kept f p q back ds)
+    (λ h. sym (zipped-kept f p q back cs) ∙ ap (λ l. zipped f l (map q cs)) h.0 ∙ ap (λ l. zipped f (map p ds) l) h.1 ∙ zipped-kept f p q back ds)
     (λ h. (ap (map p) h, ap (map q) h))
     (Decides-and (pointwise E (map p cs) (map p ds)) (pointwise F (map q cs) (map q ds)) (slice_eq-Decides e (map p cs) (map p ds) _ refl)
     (slice_eq-Decides g (map q cs) (map q ds) _ refl))

@@ -18,9 +18,9 @@ merged (value ∷ values) [] = value ∷ values
 merged (value ∷ values) (named ∷ edit) = unwrap_or named value ∷ merged values edit
 
 -- props with one row as an edit holds it
-abbrev pub edited : PropList → ℕ → Option (Option ℤ) → PropList
-edited props row None = props
-edited props row (Some value) = slice_set props row value
+abbrev pub with_edit : PropList → ℕ → Option (Option ℤ) → PropList
+with_edit props row None = props
+with_edit props row (Some value) = slice_set props row value
 
 -- an edit of a row takes what the row takes
 abbrev pub IsEditInRow : RowRule → Option (Option ℤ) → Type 0

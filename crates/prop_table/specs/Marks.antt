@@ -1,6 +1,6 @@
 -- How an edit is kept: a mark for each row, beside the number that it then is.
 use Rattle.std.specs.Prelude.{ℕ, ℤ, pos, List, Option, Some, None}
-use Rattle.prop_table.specs.Joined.{joined, AreJoined}
+use Rattle.prop_table.specs.Joined.{zipped, AreZipped}
 use Rattle.prop_table.specs.Edits.{EditList}
 use Rattle.prop_table.specs.declared.mark.Mark.{Mark}
 use Rattle.prop_table.specs.declared.mark.Mark.TheVariants.{Unnamed, Absent, Given}
@@ -25,8 +25,8 @@ number_of (Some (Some number)) = number
 
 -- the edit that is kept so
 abbrev pub marked : List Mark → List ℤ → EditList
-marked marks numbers = joined named_if marks numbers
+marked marks numbers = zipped named_if marks numbers
 
 -- as many as there are rows, and 0 where no number is given
 abbrev pub AreMarks : ℕ → List Mark → List ℤ → Type 0
-AreMarks n marks numbers = AreJoined named_if mark_of number_of n marks numbers
+AreMarks n marks numbers = AreZipped named_if mark_of number_of n marks numbers

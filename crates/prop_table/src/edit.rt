@@ -3,7 +3,7 @@
 ghost use Rattle.std.specs.Prelude.{◌≡◌, ◌<◌, ◌↔◌, IfOk, IsOk, None, Some, length, replicate, slice_set};
 ghost use Rattle.prop_table.specs.Table.{IsInRow, AreInRows, AreNodeProps, v1_rules, v2_rules};
 ghost use Rattle.prop_table.specs.Rules.{rules_of, rule_at};
-ghost use Rattle.prop_table.specs.Edits.{named_at, merged, edited, AreEditsInRows, widened_edit};
+ghost use Rattle.prop_table.specs.Edits.{named_at, merged, with_edit, AreEditsInRows, widened_edit};
 ghost use Rattle.prop_table.specs.Marks.{mark_of, number_of};
 ghost use Rattle.prop_table.specs.Widened.{widened};
 
@@ -109,7 +109,7 @@ impl<const N: usize> Props<N> {
     /// Becomes what an edit holds for a row, and stays as it is where the row is unnamed.
     fn follow(&mut self, row: usize, named: Option<Option<i64>>)
         requires { row < N }
-        ensures { self.new ≡ edited self.old row named }
+        ensures { self.new ≡ with_edit self.old row named }
     {
         if let Some(value) = named {
             self.put(row, value);

@@ -16,11 +16,11 @@ use Rattle.run_report.specs.Legal.{Answers, TakenStep}
 use Rattle.run_report.specs.Mounts.{passages_by}
 use Rattle.run_report.specs.Shorthands.{begun as before_first}
 use Rattle.run_report.specs.Wishes.{as_written}
-use Rattle.run_report.specs.ActorLegal.{IsLegalSoFar, MountsFollow, admitted_records, record_named, looks_named, looks_so_far, looks_under_way, tries_of as tries_at}
+use Rattle.run_report.specs.ActorLegal.{IsLegalSoFar, MountsFollow, admitted_records, record_named, looks_named, looks_so_far, looks_under_way, tries_under as tries_at}
 use Rattle.run_report.proofs.Begun.{legal_begun}
 use Rattle.run_report.proofs.EventLegal.{first_left}
 use Rattle.run_report.proofs.Looks.{taken_after-none}
-use Rattle.run_actor.specs.Actors.{RunningActor, actor_now, tries_of}
+use Rattle.run_actor.specs.Actors.{RunningActor, actor_now, tries_under}
 use Rattle.run_actor.specs.Event.{HasNeeds, MayAct, MayMount}
 use Rattle.run_actor.specs.Runs.{mounts_made_on, records_named, IsBegun, HasNothingMounted, MayBegin, HasRun, HasRunOn, LeavesMounted}
 use Rattle.run_actor.specs.Running.{HasRunSoFar, HasRunOnSoFar}
@@ -51,7 +51,7 @@ pub begun_on : (id : ℕ) (told : Told) (mounted : Option PlainCoordinator) (beg
     → HasRunOnSoFar id told told mounted mounted begun begun
 begun_on id told mounted begun is may =
     let now : actor_now begun ≡ before_first (record { name = begun.name; steps = begun.left }) =
-    λ i. record { name = begun.name; left = begun.left; answers = is.answers i; tries = tries_of (is.commit i); looked = option_and_then looked_at (is.commit i) } in
+    λ i. record { name = begun.name; left = begun.left; answers = is.answers i; tries = tries_under (is.commit i); looked = option_and_then looked_at (is.commit i) } in
     let looks : looks_so_far id (actor_now begun) ≡ 0 = omega (arith, ap (looks_so_far id) now, not_looked id begun.left) in
     let records : records_named id told.seen begun begun ≡ [] =
     ap (λ answers. admitted_records as_written id told.seen begun.number begun.left answers) is.answers
@@ -86,7 +86,7 @@ pub ended_on : (id : ℕ) (start told : Told) (opened mounted : Option PlainCoor
     → HasRunOn id start told opened mounted begun now
 ended_on id start told opened mounted begun now on none =
     let looks : looks_so_far id (actor_now now) ≡ looks_named id now.answers =
-    ap (λ left. looks_named id now.answers + looks_under_way id left (tries_of now.commit)) none ∙ omega arith in
+    ap (λ left. looks_named id now.answers + looks_under_way id left (tries_under now.commit)) none ∙ omega arith in
     record {
       lasts = on.lasts;
       looks = on.looks ∙ ap (raised start.looks) looks;

@@ -56,8 +56,8 @@ coded_actor =
     (λ _. refl)
 
 -- how often a commit under way has looked
-abbrev pub tries_of : Option PlainCommit → ℕ
-tries_of under = unwrap_or (option_map (λ commit. commit.tries) under) 0
+abbrev pub tries_under : Option PlainCommit → ℕ
+tries_under under = unwrap_or (option_map (λ commit. commit.tries) under) 0
 
 -- where an actor stands, as the machine of turns says it
 abbrev pub actor_now : RunningActor → ActorNow
@@ -65,7 +65,7 @@ actor_now actor = record {
   name = actor.name;
   left = actor.left;
   answers = actor.answers;
-  tries = tries_of actor.commit;
+  tries = tries_under actor.commit;
   looked = option_and_then looked_at actor.commit;
 }
 

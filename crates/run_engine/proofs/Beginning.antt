@@ -13,12 +13,12 @@ use Rattle.commit_core.specs.declared.plain_parts.PlainPass.{PlainPass}
 use Rattle.mount_coordinator.specs.Mounted.{IsBaseOf}
 use Rattle.run_report.specs.Mounts.{passages_by, mount_along}
 use Rattle.run_report.specs.Points.{number_held}
-use Rattle.run_report.specs.Shorthands.{begun, opened, number_mounted}
+use Rattle.run_report.specs.Shorthands.{begun, surface_at_start, number_mounted}
 use Rattle.run_engine.specs.declared.workers.Worker.{Worker}
 use Rattle.run_actor.specs.Actors.{RunningActor}
 use Rattle.run_actor.specs.Event.{IsHolding, base_of}
 use Rattle.run_engine.specs.Now.{PlainDesk, desk_records, told_with, surface_now}
-use Rattle.run_engine.specs.Run.{commits_left, AreWithin, IsOpen, HasRoom, IsSeated, AreInOrder}
+use Rattle.run_engine.specs.Run.{commits_left, AreWithin, IsOpen, HasRoomForCommits, IsSeated, AreInOrder}
 use Rattle.run_actor.specs.Runs.{mounts_made_on}
 use Rattle.run_engine.specs.Opening.{IsOpening, AreOpenings, IsDeskAtStart, AreDesksAtStart, HasSeenNothing, IsWorkerAtStart, AreWorkersAtStart}
 use Rattle.run_engine.proofs.Openings.{zip_from, all_at_place}
@@ -53,7 +53,7 @@ module _ (surfaces : List PlainSurface) (plans : List PlainActor) (first : List 
     open_at_start = record { coordinator = opening.2.mounted.coordinator; mounted = opening.2.mounted.mounted; base = base_stands }
 
     -- and has room for all commits
-    pub room_at_start : HasRoom workers entry
+    pub room_at_start : HasRoomForCommits workers entry
     room_at_start =
         omega (
           arith,
@@ -121,14 +121,14 @@ module _ (surfaces : List PlainSurface) (plans : List PlainActor) (first : List 
 
 -- the surfaces stand as the script opens them
 pub opened_all : (surfaces : List PlainSurface) (plans : List PlainActor) (first : List (ℕ × KeptRevision)) (desks : List (ℕ × PlainDesk))
-    → AreOpenings surfaces first → AreDesksAtStart (map begun plans) first desks → map surface_now desks ≡ map opened surfaces
+    → AreOpenings surfaces first → AreDesksAtStart (map begun plans) first desks → map surface_now desks ≡ map surface_at_start surfaces
 opened_all [] plans [] [] openings are = refl
 opened_all [] plans [] (d ∷ desks) openings are = absurd are
 opened_all [] plans (e ∷ first) desks openings are = absurd openings
 opened_all (s ∷ surfaces) plans [] desks openings are = absurd openings
 opened_all (s ∷ surfaces) plans (e ∷ first) [] openings are = absurd are
 opened_all (s ∷ surfaces) plans (e ∷ first) (d ∷ desks) openings are =
-    let here : surface_now d ≡ opened s = λ i. record {
+    let here : surface_now d ≡ surface_at_start s = λ i. record {
       id = (are.0.id ∙ openings.0.id) i;
       first = (are.0.history.first ∙ openings.0.stands.newest.size) i;
       records = are.0.history.records i;

@@ -25,8 +25,8 @@ use Rattle.run_actor.specs.Runs.{HasRun, HasRunOn, IsBegun, MayBegin}
 use Rattle.run_engine.specs.declared.jobs.Job.{Job}
 use Rattle.run_engine.specs.Opening.{AreOpenings, IsOpening}
 use Rattle.run_engine.specs.Run.{commits_left}
-use Rattle.run_engine.specs.Workers.{HasEnded, HaveWorked, HaveWorkedOn, MayWork}
-use Rattle.run_engine.specs.Jobs.{AreDone, AreGathered, AreJobsAtStart, AreOfSpines, AreRun, HasGathered, HasRunJob, IsDone, IsJobAtStart, IsMountFor, IsUnmounted, MayGather, MayGiveAll, MayRun, MayRunEach, after_own_passes, own_pass}
+use Rattle.run_engine.specs.Workers.{IsDone, HaveWorked, HaveWorkedOn, MayWork}
+use Rattle.run_engine.specs.Jobs.{AreDone, AreHandedBack, AreJobsAtStart, AreOfSpines, AreRun, HasGathered, HasRunJob, IsDone, IsJobAtStart, IsMountFor, IsUnmounted, MayGather, MayGiveAll, MayRun, MayRunEach, after_own_passes, own_pass}
 use Rattle.run_engine.proofs.JobsBegin.{first_base, job_begins, job_leaves, same_spine}
 use Rattle.run_engine.proofs.Gathered.{keys_length}
 use Rattle.run_engine.proofs.JobsGather.{there_too}
@@ -244,7 +244,7 @@ module _ (script : PlainScript) (sound : IsSoundScript script) (spines : List (�
         }
 
         -- before the first job, nothing was gathered
-        pub none_gathered : AreGathered script.surfaces [] [] (map (after_own_passes script.actors) passes) (map (after_own_passes script.actors) passes) mounts
+        pub none_gathered : AreHandedBack script.surfaces [] [] (map (after_own_passes script.actors) passes) (map (after_own_passes script.actors) passes) mounts
         none_gathered = record {
           ids = refl;
           passes = length-map passes (after_own_passes script.actors) ∙ pass_count;
@@ -277,14 +277,14 @@ module _ (script : PlainScript) (sound : IsSoundScript script) (spines : List (�
 
         -- and after the last one the workers have worked
         pub have_worked : (new : List (ℕ × PassValue)) (actors : List RunningActor) (kept : List PlainCoordinator) → actors ≡ map (λ job. job.actor) after
-            → AreGathered script.surfaces script.actors actors (map (after_own_passes script.actors) passes) new kept → HaveWorked script passes new actors kept
+            → AreHandedBack script.surfaces script.actors actors (map (after_own_passes script.actors) passes) new kept → HaveWorked script passes new actors kept
         have_worked new actors kept are gathered = record {
           pass_ids = gathered.ids ∙ keys_kept (after_own_passes script.actors) passes (λ e. refl);
           actor_count = gathered.count;
           mount_count = gathered.mount_count;
           ended = λ number plan actor at to.
               let job = there_too actors after number actor to (sym (ap length are ∙ length-map after (λ job. job.actor))) in
-              subst (HasEnded number plan) (sym (made_at (λ job. job.actor) after number job.0 actor job.1 (sym (ap (λ l. slice_get l number) are) ∙ to)))
+              subst (IsDone number plan) (sym (made_at (λ job. job.actor) after number job.0 actor job.1 (sym (ap (λ l. slice_get l number) are) ∙ to)))
               (are_done.each number plan job.0 at job.1).ended;
           surfaces = λ place surface was is mounted at w i m.
               let spine = there_too script.surfaces spines place surface at spine_count in

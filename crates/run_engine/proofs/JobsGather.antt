@@ -29,7 +29,7 @@ use Rattle.run_actor.specs.Runs.{commits_on, mounts_made_on}
 use Rattle.run_engine.specs.declared.jobs.Job.{Job}
 use Rattle.run_engine.specs.Run.{commits_left}
 use Rattle.run_engine.specs.Workers.{HasWorkedOn, records_by, records_from, passages_of}
-use Rattle.run_engine.specs.Jobs.{AreDone, AreGathered, AreJoined, AreKept, HasGathered, HasLeft, IsJoin, LeavesBase, MayGather, MayJoin}
+use Rattle.run_engine.specs.Jobs.{AreDone, AreHandedBack, AreJoined, AreKept, HasGathered, HasLeft, IsJoin, LeavesBase, MayGather, MayJoin}
 use Rattle.run_engine.proofs.Gathered.{keys_length}
 use Rattle.run_engine.proofs.Openings.{commits_left-push, take_push}
 use Rattle.run_engine.proofs.Places.{drop_head, drop_tail}
@@ -219,9 +219,9 @@ count_first id plans n =
 
 -- what was gathered of each surface, an actor further
 module _ (surfaces : List PlainSurface) (plans : List PlainActor) (jobs : List Job) (n : ℕ) (job : Job) (actors : List RunningActor) (old now new : List (ℕ × PassValue)) (mounts kept : List PlainCoordinator)
-    (done : AreDone surfaces plans jobs) (at : slice_get jobs n ≡ Some job) (before : AreGathered surfaces (take n plans) actors old now mounts)
+    (done : AreDone surfaces plans jobs) (at : slice_get jobs n ≡ Some job) (before : AreHandedBack surfaces (take n plans) actors old now mounts)
     (joined : AreJoined now new job.passes.items) (keeps : AreKept mounts kept job.mounts.items) where
-  pub all_gathered_next : AreGathered surfaces (take (suc n) plans) (actors ++ job.actor ∷ []) old new kept
+  pub all_gathered_next : AreHandedBack surfaces (take (suc n) plans) (actors ++ job.actor ∷ []) old new kept
   all_gathered_next =
       let here = there_too jobs plans n job at (sym done.count) in
       let plan : PlainActor = here.0 in
@@ -232,7 +232,7 @@ module _ (surfaces : List PlainSurface) (plans : List PlainActor) (jobs : List J
       let news : length new ≡ length now = same_length new now joined.ids in
       let longer = length-append actors (job.actor ∷ []) in
       let longer_plans = length-append (take n plans) (plan ∷ []) in
-      subst (λ l. AreGathered surfaces l (actors ++ job.actor ∷ []) old new kept) (sym grown)
+      subst (λ l. AreHandedBack surfaces l (actors ++ job.actor ∷ []) old new kept) (sym grown)
       (record {
         ids = joined.ids ∙ before.ids;
         passes = news ∙ before.passes;
@@ -277,8 +277,8 @@ module _ (spines : List (ℕ × Spine)) (jobs : List Job) (old : List (ℕ × Pa
     pub actors_are : map actor_of jobs ≡ actors ++ map actor_of rest
     pub left : drop (length actors) jobs ≡ rest
     pub may : MayGather spines now rest mounts
-    pub gathered : (surfaces : List PlainSurface) (plans : List PlainActor) → AreDone surfaces plans jobs → AreGathered surfaces [] [] old old first
-        → AreGathered surfaces (take (length actors) plans) actors old now mounts
+    pub gathered : (surfaces : List PlainSurface) (plans : List PlainActor) → AreDone surfaces plans jobs → AreHandedBack surfaces [] [] old old first
+        → AreHandedBack surfaces (take (length actors) plans) actors old now mounts
 
   pub none_came : (rest : List Job) (actors : List RunningActor) → rest ≡ jobs → actors ≡ [] → MayGather spines old jobs first → HaveCome rest actors old first
   none_came rest actors all none may =
@@ -306,8 +306,8 @@ module _ (spines : List (ℕ × Spine)) (jobs : List Job) (old : List (ℕ × Pa
           left = drop_tail jobs (length actors) (length all) job more s (come.left ∙ next);
           may = may_gather_next spines now new job more mounts kept next_may joined keeps;
           gathered = λ surfaces plans done start.
-              subst (λ n. AreGathered surfaces (take n plans) all old new kept) (sym s)
-              (subst (λ l. AreGathered surfaces (take (suc (length actors)) plans) l old new kept) (sym grown)
+              subst (λ n. AreHandedBack surfaces (take n plans) all old new kept) (sym s)
+              (subst (λ l. AreHandedBack surfaces (take (suc (length actors)) plans) l old new kept) (sym grown)
               (all_gathered_next surfaces plans jobs (length actors) job actors old now new mounts kept done at (come.gathered surfaces plans done start) joined keeps));
         }
 
@@ -315,7 +315,7 @@ module _ (spines : List (ℕ × Spine)) (jobs : List Job) (old : List (ℕ × Pa
     pub all_actors : actors ≡ map actor_of jobs
     all_actors = sym (come.actors_are ∙ ap (λ l. actors ++ map actor_of l) (nil_from_length rest none) ∙ append-nil actors)
 
-    pub all_gathered : (surfaces : List PlainSurface) (plans : List PlainActor) → AreDone surfaces plans jobs → AreGathered surfaces [] [] old old first → AreGathered surfaces plans actors old now mounts
+    pub all_gathered : (surfaces : List PlainSurface) (plans : List PlainActor) → AreDone surfaces plans jobs → AreHandedBack surfaces [] [] old old first → AreHandedBack surfaces plans actors old now mounts
     all_gathered surfaces plans done start =
         let n : length actors ≡ length plans = ap length all_actors ∙ length-map jobs actor_of ∙ done.count in
-        subst (λ l. AreGathered surfaces l actors old now mounts) (take_all (length actors) plans (omega (arith, n))) (come.gathered surfaces plans done start)
+        subst (λ l. AreHandedBack surfaces l actors old now mounts) (take_all (length actors) plans (omega (arith, n))) (come.gathered surfaces plans done start)

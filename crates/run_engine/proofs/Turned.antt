@@ -26,7 +26,7 @@ use Rattle.run_actor.specs.Actors.{actor_now, commit_record}
 use Rattle.run_actor.specs.Event.{IsUnderWay, MayMount, HasNeeds, KeepsElsewhere, base_of}
 use Rattle.run_engine.specs.Now.{PlainDesk, desk_records, told_with, surface_now, worker_now, now_of}
 use Rattle.run_engine.specs.Turns.{MayTurn, IsTurn}
-use Rattle.run_engine.specs.Run.{commits_left, AreWithin, IsOpen, HasRoom, IsSeated, AreInOrder}
+use Rattle.run_engine.specs.Run.{commits_left, AreWithin, IsOpen, HasRoomForCommits, IsSeated, AreInOrder}
 use Rattle.run_actor.specs.Runs.{commits_on}
 use Rattle.run_actor.proofs.Acts.{holding_lasts}
 use Rattle.run_actor.proofs.Quiet.{StaysElsewhere, one_fewer, event_elsewhere}
@@ -232,7 +232,7 @@ module _ (script : PlainScript) (sound : IsSoundScript script) (entries : List (
         ap (λ l. commits_left id l + count_by (commits_on id) worker.actor.left) (map-set worker_now workers number after)
         ∙ left_set id (map worker_now workers) number (worker_now worker) (worker_now after) now_at
 
-    room_here : HasRoom (slice_set workers number after) (step.surface, new)
+    room_here : HasRoomForCommits (slice_set workers number after) (step.surface, new)
     room_here =
         omega (
           arith,
@@ -244,7 +244,7 @@ module _ (script : PlainScript) (sound : IsSoundScript script) (entries : List (
           same_room new.port.spine.room desk.port.spine.room turn.lasts.mark,
         )
 
-    room_beside : (d : ℕ × PlainDesk) → HasRoom workers d → HasRoom (slice_set workers number after) d
+    room_beside : (d : ℕ × PlainDesk) → HasRoomForCommits workers d → HasRoomForCommits (slice_set workers number after) d
     room_beside d room = omega (arith, room, left_now d.0, stays.left d.0)
 
     off_id : (other : ℕ) (d : ℕ × PlainDesk) → (other ≡ place → ⊥) → slice_get entries other ≡ Some d → nat_eq step.surface d.0 ≡ false
@@ -333,7 +333,7 @@ module _ (script : PlainScript) (sound : IsSoundScript script) (entries : List (
     turned_order = record {
       numbers = numbers;
       open_at = set_cases (λ k (d : ℕ × PlainDesk). IsOpen d.1) entries place (step.surface, desk) (step.surface, new) there changed.opened (λ k d off to. order.open_at k d to);
-      room_at = set_cases (λ k d. HasRoom (slice_set workers number after) d) entries place (step.surface, desk) (step.surface, new) there room_here (λ k d off to. room_beside d (order.room_at k d to));
+      room_at = set_cases (λ k d. HasRoomForCommits (slice_set workers number after) d) entries place (step.surface, desk) (step.surface, new) there room_here (λ k d off to. room_beside d (order.room_at k d to));
       seated = λ k d j w to on. set_cases (λ k d. IsSeated k d j w) entries place (step.surface, desk) (step.surface, new) there
           (set_cases (λ j w. IsSeated place (step.surface, new) j w) workers number worker after at seat_here (λ j w off on. seat_other j w (order.seated place (step.surface, desk) j w there on)) j w on)
           (λ k d off to. set_cases (λ j w. IsSeated k d j w) workers number worker after at (seat_beside k d off to (order.seated k d number worker to at)) (λ j w off on. order.seated k d j w to on) j w on)

@@ -30,8 +30,8 @@ pub record IsOpen (desk : PlainDesk) : Type 0 where
   pub base : IsBaseIn desk.port.spine.first (desk_records desk) coordinator.base
 
 -- there is room for the commits on a surface that the actors have left
-abbrev pub HasRoom : List Worker → ℕ × PlainDesk → Type 0
-HasRoom workers entry = length (desk_records entry.1) + commits_left entry.0 (map worker_now workers) ≤ entry.1.port.spine.room
+abbrev pub HasRoomForCommits : List Worker → ℕ × PlainDesk → Type 0
+HasRoomForCommits workers entry = length (desk_records entry.1) + commits_left entry.0 (map worker_now workers) ≤ entry.1.port.spine.room
 
 -- an actor of that number is in order at the surface of that place: with its pass there it is in order, and its mounts there lie along the passages that its answers name
 pub record IsSeated (place : ℕ) (entry : ℕ × PlainDesk) (number : ℕ) (worker : Worker) : Type 0 where
@@ -48,7 +48,7 @@ pub record IsSeated (place : ℕ) (entry : ℕ × PlainDesk) (number : ℕ) (wor
 pub record AreInOrder (entries : List (ℕ × PlainDesk)) (workers : List Worker) : Type 0 where
   pub numbers : (number : ℕ) (worker : Worker) → slice_get workers number ≡ Some worker → worker.actor.number ≡ number
   pub open_at : (place : ℕ) (entry : ℕ × PlainDesk) → slice_get entries place ≡ Some entry → IsOpen entry.1
-  pub room_at : (place : ℕ) (entry : ℕ × PlainDesk) → slice_get entries place ≡ Some entry → HasRoom workers entry
+  pub room_at : (place : ℕ) (entry : ℕ × PlainDesk) → slice_get entries place ≡ Some entry → HasRoomForCommits workers entry
   pub seated : (place : ℕ) (entry : ℕ × PlainDesk) (number : ℕ) (worker : Worker) → slice_get entries place ≡ Some entry → slice_get workers number ≡ Some worker
       → IsSeated place entry number worker
 

@@ -2,7 +2,7 @@
 
 ghost use Rattle.std.specs.Prelude.{◌≡◌, List, [], IfOk, length, map, unwrap_or};
 ghost use Rattle.tree_revision.specs.Script.{PlainActor, PlainSurface};
-ghost use Rattle.run_engine.specs.Jobs.{AreDone, AreGathered, AreJoined, AreKept, MayGather, MayJoin};
+ghost use Rattle.run_engine.specs.Jobs.{AreDone, AreHandedBack, AreJoined, AreKept, MayGather, MayJoin};
 
 use crate::jobs::Job;
 use crate::threads::Worked;
@@ -67,8 +67,8 @@ pub(crate) fn gather<'a>(
     requires may { MayGather spines.now.entries passes.old.entries jobs.items mounts.items }
     requires empty { actors.items ≡ [] }
     ensures actors { IfOk result (λ worked. worked.actors.items ≡ map (λ job. job.actor) jobs.entry.items) }
-    ensures gathered { IfOk result (λ worked. (surfaces : List PlainSurface) (plans : List PlainActor) → AreDone surfaces plans jobs.entry.items → AreGathered surfaces [] [] passes.old.entries passes.old.entries mounts.items
-        → AreGathered surfaces plans worked.actors.items passes.old.entries passes.new.entries worked.mounts.items) }
+    ensures gathered { IfOk result (λ worked. (surfaces : List PlainSurface) (plans : List PlainActor) → AreDone surfaces plans jobs.entry.items → AreHandedBack surfaces [] [] passes.old.entries passes.old.entries mounts.items
+        → AreHandedBack surfaces plans worked.actors.items passes.old.entries passes.new.entries worked.mounts.items) }
 {
     for job in jobs {
         let Job {

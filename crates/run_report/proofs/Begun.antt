@@ -8,7 +8,7 @@ use Rattle.tree_revision.specs.Records.{PlainRecord}
 use Rattle.tree_revision.specs.Script.{PlainActor, PlainSurface, PlainScript}
 use Rattle.run_report.specs.Journal.{PlainActorPart}
 use Rattle.run_report.specs.Mounts.{passages_by, last_to}
-use Rattle.run_report.specs.Shorthands.{passages_named, opened, begun}
+use Rattle.run_report.specs.Shorthands.{passages_named, surface_at_start, begun}
 use Rattle.run_report.specs.Legal.{FollowOn}
 use Rattle.run_report.specs.Machine.{actor_part_of, run_of}
 use Rattle.run_report.specs.Wishes.{Wish, as_written}
@@ -45,7 +45,7 @@ passages_begun id actors =
         (is j (slice_get actors j) part (sym (slice_get-map actor_part_of (map begun actors) j ∙ ap (option_map actor_part_of) (slice_get-map begun actors j)) ∙ at))
 
 -- so does a surface
-pub surface_begun : (wish : Wish) (script : PlainScript) (surface : PlainSurface) → IsHookedSurface wish script (map begun script.actors) (opened surface)
+pub surface_begun : (wish : Wish) (script : PlainScript) (surface : PlainSurface) → IsHookedSurface wish script (map begun script.actors) (surface_at_start surface)
 surface_begun wish script surface = record {
   lawful = tt;
   base = omega arith;
@@ -59,11 +59,11 @@ surface_begun wish script surface = record {
 -- and so does the run
 pub hooked_run_begun : (wish : Wish) (script : PlainScript) → IsHookedRun wish script (run_of script)
 hooked_run_begun wish script = record {
-  surfaces = all_zip_begun IsSurfaceOf opened script.surfaces (λ s. record { id = refl; first = refl });
+  surfaces = all_zip_begun IsSurfaceOf surface_at_start script.surfaces (λ s. record { id = refl; first = refl });
   count = length-map script.actors begun;
   actors = each_begun (λ n a b. IsActorOf a b) begun script.actors (λ i a. record { name = refl; through = record { done = []; whole = refl; answers = tt } });
-  kept = all_map (IsHookedSurface wish script (map begun script.actors)) opened script.surfaces
-      (all_true (λ s. IsHookedSurface wish script (map begun script.actors) (opened s)) (surface_begun wish script) script.surfaces);
+  kept = all_map (IsHookedSurface wish script (map begun script.actors)) surface_at_start script.surfaces
+      (all_true (λ s. IsHookedSurface wish script (map begun script.actors) (surface_at_start s)) (surface_begun wish script) script.surfaces);
 }
 
 pub run_begun : (script : PlainScript) → IsRunOf script (run_of script)

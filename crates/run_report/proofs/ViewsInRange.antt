@@ -20,7 +20,7 @@ use Rattle.shadow_node.specs.InRange.{AreFieldsInRange}
 use Rattle.shadow_node.specs.Shown.{Descendant, descendants_below}
 use Rattle.shadow_node.proofs.Maps.{AllFields}
 use Rattle.tree_settle.specs.Limits.{IsSizeInRange}
-use Rattle.tree_settle.specs.Walk.{HasRoom, settled_in}
+use Rattle.tree_settle.specs.Walk.{HasRoomInside, settled_in}
 use Rattle.view_flatten.specs.HostTree.{host_parent, moved, host_origin, view_of}
 use Rattle.run_report.specs.Ranges.{IsCellInRange, IsStateInRange, IsViewInRange}
 use Rattle.run_report.proofs.Lists.{all_append}
@@ -59,8 +59,8 @@ pub record IsFrameKept (frame : Rect) : Type 0 where
   height_high : frame.size.height ≤ℤ pos 97000000
 
 -- a node's frame, in a parent with room for it and so many levels below it
-frame_kept : (parent : Size) (fields : NodeFields) (levels : ℕ) → AreFieldsInRange fields → HasRoom parent (levels + 1)
-    → IsFrameKept (frame_in parent fields) × HasRoom (frame_in parent fields).size levels
+frame_kept : (parent : Size) (fields : NodeFields) (levels : ℕ) → AreFieldsInRange fields → HasRoomInside parent (levels + 1)
+    → IsFrameKept (frame_in parent fields) × HasRoomInside (frame_in parent fields).size levels
 frame_kept parent fields levels h room =
     let x = axis_placed (x_axis_of fields.props) parent.width levels (x_axis_of-in_range fields.props h.props) room.width_low room.width_high in
     let y = axis_placed (y_axis_of fields.props) parent.height levels (y_axis_of-in_range fields.props h.props) room.height_low room.height_high in (
@@ -78,7 +78,7 @@ frame_kept parent fields levels h room =
     )
 
 -- room for more levels is room for fewer
-pub fewer_levels : (size : Size) (levels more : ℕ) → levels ≤ more → HasRoom size more → HasRoom size levels
+pub fewer_levels : (size : Size) (levels more : ℕ) → levels ≤ more → HasRoomInside size more → HasRoomInside size levels
 fewer_levels size levels more less room = record {
   width_low = room.width_low;
   width_high = omega (arith, ints, room.width_high);
@@ -87,7 +87,7 @@ fewer_levels size levels more less room = record {
 }
 
 -- a surface has room for 48 levels
-pub surface_room : (size : Size) → IsSizeInRange size → HasRoom size 48
+pub surface_room : (size : Size) → IsSizeInRange size → HasRoomInside size 48
 surface_room size range = record {
   width_low = range.width_low;
   width_high = omega (arith, ints, range.width_high);
@@ -103,7 +103,7 @@ pub record IsSettledInRange (settled : SettledFields) : Type 0 where
 
 -- each node of a settled forest
 pub settled_each : (parent : Size) (newest : ℕ → StateCell) → ((tag : ℕ) → IsCellInRange (newest tag)) → (forest : PlainForest NodeFields)
-    → AllFields AreFieldsInRange forest → HasRoom parent (depth_of forest) → AllFields IsSettledInRange (settled_in parent newest forest)
+    → AllFields AreFieldsInRange forest → HasRoomInside parent (depth_of forest) → AllFields IsSettledInRange (settled_in parent newest forest)
 settled_each parent newest cells none h room = tt
 settled_each parent newest cells (node fields children siblings) h room =
     let kept = frame_kept parent fields (depth_of children) h.0 (fewer_levels parent (depth_of children + 1) (depth_of (node fields children siblings)) (omega arith) room) in (

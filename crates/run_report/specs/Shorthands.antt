@@ -42,8 +42,8 @@ abbrev pub after_hooked_turns : Wish → RunNow → List ℕ → RunNow
 after_hooked_turns wish run turns = fold (after_hooked_turn wish) run turns
 
 -- a surface before the first turn
-abbrev pub opened : PlainSurface → SurfaceNow
-opened surface = record { id = surface.id; first = surface.size; records = []; base = 0 }
+abbrev pub surface_at_start : PlainSurface → SurfaceNow
+surface_at_start surface = record { id = surface.id; first = surface.size; records = []; base = 0 }
 
 -- an actor before its first step
 abbrev pub begun : PlainActor → ActorNow

@@ -6,7 +6,7 @@ use Rattle.std.proofs.lemmas.List.{get_or-map, append-nil}
 use Rattle.std.specs.Prelude.{ℤ, Option, Some, None, unwrap_or, map, replicate}
 use Rattle.serde_json.specs.Data.{Data}
 use Rattle.prop_table.specs.Props.{PropList}
-use Rattle.prop_table.specs.Edits.{EditList, edited}
+use Rattle.prop_table.specs.Edits.{EditList, with_edit}
 use Rattle.prop_table.specs.Table.{RowRule, start_of}
 use Rattle.prop_table.specs.Rules.{rule_of, rule_at, no_rule}
 use Rattle.prop_table.specs.declared.table.Row.{Row}
@@ -20,16 +20,16 @@ rule_read rows i row h e = get_or-map rule_of rows i row no_rule h ∙ ap rule_o
 abbrev pub rows_to : ℕ → List RowRule → Data → PropList
 rows_to i rules given = map (λ rule. unwrap_or (named_row given rule) rule.start) (take i rules) ++ start_of (drop i rules)
 
-edited_later : (first : Option ℤ) (props : PropList) (i : ℕ) (said : Option (Option ℤ)) → edited (first ∷ props) (suc i) said ≡ first ∷ edited props i said
+edited_later : (first : Option ℤ) (props : PropList) (i : ℕ) (said : Option (Option ℤ)) → with_edit (first ∷ props) (suc i) said ≡ first ∷ with_edit props i said
 edited_later first props i None = refl
 edited_later first props i (Some value) = refl
 
-edited_first : (start : Option ℤ) (props : PropList) (said : Option (Option ℤ)) → edited (start ∷ props) 0 said ≡ unwrap_or said start ∷ props
+edited_first : (start : Option ℤ) (props : PropList) (said : Option (Option ℤ)) → with_edit (start ∷ props) 0 said ≡ unwrap_or said start ∷ props
 edited_first start props None = refl
 edited_first start props (Some value) = refl
 
 rows_next : (given : Data) (rules : List RowRule) (i : ℕ) → i < length rules
-    → edited (rows_to i rules given) i (named_row given (rule_at rules i)) ≡ rows_to (suc i) rules given
+    → with_edit (rows_to i rules given) i (named_row given (rule_at rules i)) ≡ rows_to (suc i) rules given
 rows_next given [] i h = absurd (omega arith)
 rows_next given (rule ∷ rules) zero h = edited_first rule.start (start_of rules) (named_row given rule)
 rows_next given (rule ∷ rules) (suc i) h =
@@ -38,7 +38,7 @@ rows_next given (rule ∷ rules) (suc i) h =
 
 -- one more row
 pub rows_more : (given : Data) (rules : List RowRule) (i : ℕ) (props next : PropList) → i < length rules → props ≡ rows_to i rules given
-    → next ≡ edited props i (named_row given (rule_at rules i)) → next ≡ rows_to (i + 1) rules given
+    → next ≡ with_edit props i (named_row given (rule_at rules i)) → next ≡ rows_to (i + 1) rules given
 rows_more given rules i props next h p n = n ∙ (rw (p, add-one) (rows_next given rules i h))
 
 -- all rows

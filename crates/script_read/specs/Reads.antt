@@ -17,13 +17,13 @@ use Rattle.script_read.specs.declared.script.ScriptRefusal.{ScriptRefusal}
 use Rattle.script_read.specs.declared.script.ScriptRefusal.TheVariants.{Fault, Memory}
 
 -- the place of a pointer from the whole script, whose own place is "/"
-abbrev pub place_at : Pointer → Place
-place_at [] = record { text = codes "/" }
-place_at (byte ∷ bytes) = record { text = byte ∷ bytes }
+abbrev pub pointer_place : Pointer → Place
+pointer_place [] = record { text = codes "/" }
+pointer_place (byte ∷ bytes) = record { text = byte ∷ bytes }
 
 -- a fault at a place, where there is one
 abbrev pub with_place : (Place → ScriptFault) → Option Pointer → Option ScriptFault
-with_place fault pointer = option_map (λ found. fault (place_at found)) pointer
+with_place fault pointer = option_map (λ found. fault (pointer_place found)) pointer
 
 -- the fault of a JSON value with the smallest number
 abbrev pub fault_of : Data → Option ScriptFault

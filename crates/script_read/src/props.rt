@@ -3,7 +3,7 @@
 ghost use Rattle.std.specs.Prelude.{◌≡◌, ◌<◌, IfOk, map, codes, count_by, is_some, [], ◌∷◌};
 ghost use Rattle.serde_json.specs.View.{view};
 ghost use Rattle.serde_json.specs.Find.{get};
-ghost use Rattle.prop_table.specs.Edits.{edited};
+ghost use Rattle.prop_table.specs.Edits.{with_edit};
 ghost use Rattle.prop_table.specs.Rules.{rule_at, rule_of, rules_of};
 ghost use Rattle.script_read.specs.Members.{has_form};
 ghost use Rattle.script_read.specs.Places.{refused};
@@ -151,7 +151,7 @@ fn with_row<const N: usize>(
     value: &Value,
 ) -> Props<N>
     requires { row < N }
-    ensures { result ≡ edited props.now row (named_row_of (view value.now) (rule_at (rules_of table.now) row)) }
+    ensures { result ≡ with_edit props.now row (named_row_of (view value.now) (rule_at (rules_of table.now) row)) }
 {
     match named_row(value, &table.rows[row]) {
         Some(number) => match table.set(props, row, number) {

@@ -6,7 +6,7 @@ ghost use Rattle.tree_revision.specs.Sound.{IsSoundScript, IsWithinCounts};
 ghost use Rattle.script_read.specs.Places.{Pointer};
 ghost use Rattle.script_read.specs.Plain.{plain_script};
 ghost use Rattle.script_read.specs.Value.{script_of};
-ghost use Rattle.script_read.specs.Reads.{place_at as place_at_of, fault_of as fault_of_of, script_unless, script_in, ReadsScript};
+ghost use Rattle.script_read.specs.Reads.{pointer_place as place_at_of, fault_of as fault_of_of, script_unless, script_in, ReadsScript};
 
 use crate::build::build_script;
 use crate::places::Pointer;

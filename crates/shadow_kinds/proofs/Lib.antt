@@ -1,3 +1,4 @@
 pub mod AxesInRange
 pub mod Widening
 pub mod Inverses
+pub mod SameProps

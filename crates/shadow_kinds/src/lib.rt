@@ -6,7 +6,9 @@ mod tests;
 mod traits;
 mod words;
 
-pub use traits::{axes_of, forms_context, forms_view, has_state, is_hidden, is_leaf, z_of};
+pub use traits::{
+    axes_of, forms_context, forms_view, has_state, have_same_rows, is_hidden, is_leaf, z_of,
+};
 pub use words::{code, from_code, from_word, word};
 
 /// What a node is.

@@ -5,6 +5,7 @@ ghost use Rattle.prop_table.specs.Table.{AreNodeProps};
 ghost use Rattle.shadow_frame.specs.Range.{IsAxisInRange};
 ghost use Rattle.shadow_kinds.specs.Axes.{x_axis_of, y_axis_of, z_order_of};
 ghost use Rattle.shadow_kinds.specs.Traits.{is_number, is_at_least, is_below, is_leaf_of, has_state_of, forms_context_of, forms_view_of, is_hidden_of};
+ghost use Rattle.shadow_kinds.specs.SameProps.{is_same_props};
 
 use crate::Kind;
 use prop_table::{NodeProps, rows};
@@ -123,4 +124,12 @@ pub fn axes_of(props: &NodeProps) -> (Axis, Axis)
         size: props.get(rows::HEIGHT),
     };
     (x, y)
+}
+
+/// Whether each row is the same in both.
+#[tactic(auto, using(crate::proofs::SameProps::props_answer))]
+pub fn have_same_rows(a: &NodeProps, b: &NodeProps) -> bool
+    ensures { result ≡ is_same_props a.now b.now }
+{
+    a.is_same(b)
 }

@@ -168,11 +168,11 @@ impl ShadowNode {
         self.kind
     }
 
-    pub fn props(&self) -> NodeProps
-        ensures props { result ≡ self.now.fields.fields.props }
-        ensures in_range { AreNodeProps result }
+    pub fn props(&self) -> &NodeProps
+        ensures props { result.now ≡ self.now.fields.fields.props }
+        ensures in_range { AreNodeProps result.now }
     {
-        self.props
+        &self.props
     }
 
     pub fn label(&self) -> &Label

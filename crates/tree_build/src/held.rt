@@ -3,7 +3,7 @@
 ghost use Rattle.std.specs.Prelude.{◌≡◌, ℕ, Some, nat_eq, IfOk, OnOk, if◌then◌else◌, None};
 ghost use Rattle.std.specs.Option.{option_copied, option_map, option_or};
 ghost use Rattle.shadow_node.specs.Find.{first_settled};
-ghost use Rattle.tree_build.specs.Index.{indexed};
+ghost use Rattle.tree_build.specs.Index.{found_by};
 
 use shadow_node::{Forest, NodeRef};
 use std::alloc::{AllocError, Global};
@@ -39,7 +39,7 @@ impl<'a> Model for Held<'a> {
 
 /// Adds a node, where its tag has none yet.
 fn add<'a>(index: &mut Index<'a>, node: &'a NodeRef) -> Result<(), AllocError>
-    ensures { OnOk result ((tag : ℕ) → indexed index.new tag ≡ option_or (indexed index.old tag) (if nat_eq node.now.value.fields.fields.tag tag then Some node.now.value else None)) }
+    ensures { OnOk result ((tag : ℕ) → found_by index.new tag ≡ option_or (found_by index.old tag) (if nat_eq node.now.value.fields.fields.tag tag then Some node.now.value else None)) }
 {
     if !index.contains_key(&node.tag()) {
         index.insert(node.tag(), node)?;
@@ -49,7 +49,7 @@ fn add<'a>(index: &mut Index<'a>, node: &'a NodeRef) -> Result<(), AllocError>
 
 /// Adds the nodes of a forest in preorder, each where its tag has none yet.
 fn add_all<'a>(index: &mut Index<'a>, forest: &'a Forest) -> Result<(), AllocError>
-    ensures { OnOk result ((tag : ℕ) → indexed index.new tag ≡ option_or (indexed index.old tag) (first_settled tag forest.now)) }
+    ensures { OnOk result ((tag : ℕ) → found_by index.new tag ≡ option_or (found_by index.old tag) (first_settled tag forest.now)) }
 {
     for node in forest.nodes() {
         add(index, node)?;

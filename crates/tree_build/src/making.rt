@@ -51,9 +51,9 @@ fn changed(node: &ShadowNode, change: &Option<NodeEdit>) -> Result<(NodeProps, L
     ensures props { IfOk result (λ after. AreNodeProps after.0) }
 {
     let Some(change) = change else {
-        return Ok((node.props(), node.label().share()?));
+        return Ok((*node.props(), node.label().share()?));
     };
-    let props = node_table().merge(&node.props(), &change.rows);
+    let props = node_table().merge(node.props(), &change.rows);
     match &change.label {
         Some(label) => Ok((props, label.share()?)),
         None => Ok((props, node.label().share()?)),

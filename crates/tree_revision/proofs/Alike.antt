@@ -1,28 +1,24 @@
 -- When nodes and forests are equal.
 use Rattle.std.proofs.Common.{◌≡◌, ℕ, Bool, ◌&&◌, true, false, Decides, List, [], ◌∷◌, ◌++◌, Option, Some, None, is_some, cond, nat_eq, refl, ap, sym, ◌∙◌, subst}
 use Rattle.std.specs.Option.{option_map, option_or}
-use Rattle.std.specs.Ordering.{int_eq}
 use Rattle.std.specs.Cmp.Lexicographic.{pointwise}
-use Rattle.std.proofs.lemmas.Bool.Decides.{Decides-eqb, Decides-int_eq, Decides-and}
+use Rattle.std.proofs.lemmas.Bool.Decides.{Decides-eqb, Decides-and}
 use Rattle.std.proofs.lemmas.Slice.Eq.{slice_eq-Decides}
 use Rattle.shadow_frame.proofs.Same.{by_parts, same_options, same_frames}
 use Rattle.native_state.proofs.Same.{same_cells}
 use Rattle.native_state.specs.Same.{is_same_cell}
-use Rattle.prop_table.specs.Props.{PropList}
 use Rattle.shadow_kinds.specs.declared.Kind.{Kind}
 use Rattle.shadow_kinds.specs.Words.{code_of}
+use Rattle.shadow_kinds.proofs.SameProps.{same_props}
 use Rattle.shadow_node.specs.Forest.{PlainForest, none, node, PlainNode}
 use Rattle.shadow_node.specs.Fields.{SettledFields}
 use Rattle.shadow_node.specs.Find.{first_settled}
-use Rattle.tree_revision.specs.Unchanged.{SeenNode, shown_here, seen_below, AreSeenIn, DoTreesStandIn, top_tags, is_same_props, is_same_fields}
+use Rattle.tree_revision.specs.Unchanged.{SeenNode, shown_here, seen_below, AreSeenIn, DoTreesStandIn, top_tags, is_same_fields}
 use Rattle.tree_revision.proofs.Families.{same_kind}
 use Rattle.tree_revision.proofs.Seen.{tree_seen}
 
 same_kinds : (a b : Kind) → Decides (nat_eq (code_of a) (code_of b)) (a ≡ b)
 same_kinds a b = by_parts _ (Decides-eqb (code_of a) (code_of b)) (same_kind a b) (ap code_of)
-
-pub same_props : (a b : PropList) → Decides (is_same_props a b) (a ≡ b)
-same_props a b = slice_eq-Decides (same_options int_eq Decides-int_eq) a b (is_same_props a b) refl
 
 -- the test of two nodes' fields decides their equality
 pub same_fields : (a b : SettledFields) → Decides (is_same_fields a b) (a ≡ b)

@@ -3,13 +3,13 @@ use Rattle.std.specs.Prelude.{◌≡◌, ℕ, List, [], ◌∷◌, ◌++◌, Boo
 use Rattle.std.specs.Coded.{Coded, code_by, coded×, coded_ℕ}
 use Rattle.std.specs.List.{AllByRecursion}
 use Rattle.std.specs.Option.{option_eq, option_map, option_or}
-use Rattle.std.specs.Ordering.{int_eq, nat_cmp}
+use Rattle.std.specs.Ordering.{nat_cmp}
 use Rattle.std.specs.BTreeMap.{BTreeMap, get}
 use Rattle.std.specs.FinMap as map
 use Rattle.std.specs.Cmp.Lexicographic.{pointwise}
 use Rattle.shadow_frame.specs.Same.{is_same_frame}
 use Rattle.native_state.specs.Same.{is_same_cell}
-use Rattle.prop_table.specs.Props.{PropList}
+use Rattle.shadow_kinds.specs.SameProps.{is_same_props}
 use Rattle.shadow_kinds.specs.Traits.{is_hidden_of}
 use Rattle.shadow_kinds.specs.Words.{code_of}
 use Rattle.shadow_node.specs.Forest.{PlainForest, none, node, PlainNode}
@@ -56,10 +56,6 @@ abbrev pub top_tags : PlainForest SettledFields → List ℕ
 top_tags none = []
 top_tags (node settled children siblings) = settled.fields.tag ∷ top_tags siblings
 
--- the same number in each row
-abbrev pub is_same_props : PropList → PropList → Bool
-is_same_props a b = pointwise (option_eq int_eq) a b
-
 -- the same tag, kind, props, label, state and frame
 abbrev pub is_same_fields : SettledFields → SettledFields → Bool
 is_same_fields a b =
@@ -97,9 +93,9 @@ abbrev pub seen_place : Place → SeenNode
 seen_place place = record { tree = place.node.now.value; shown = place.shown }
 
 -- what places have at a tag
-abbrev pub placed : BTreeMap ℕ Place → ℕ → Option SeenNode
-placed places tag = option_map seen_place (get nat_cmp places tag)
+abbrev pub seen_by : BTreeMap ℕ Place → ℕ → Option SeenNode
+seen_by places tag = option_map seen_place (get nat_cmp places tag)
 
 -- each tag of a forest has its first node there
 abbrev pub ArePlacesOf : BTreeMap ℕ Place → PlainForest SettledFields → Type 0
-ArePlacesOf places forest = (tag : ℕ) → placed places tag ≡ seen_below true tag forest
+ArePlacesOf places forest = (tag : ℕ) → seen_by places tag ≡ seen_below true tag forest

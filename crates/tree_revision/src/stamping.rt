@@ -11,10 +11,9 @@ ghost use Rattle.shadow_node.specs.Forest.{PlainForest};
 ghost use Rattle.shadow_node.specs.Fields.{SettledFields, contents_of, tags_of};
 ghost use Rattle.shadow_node.specs.Find.{first_settled};
 ghost use Rattle.tree_revision.specs.ForestStamps.{HasTagsOf, AreStampsAfter, IsStampAfter};
-ghost use Rattle.tree_revision.specs.Unchanged.{seen_below, shown_here, AreSeenIn, DoTreesStandIn, top_tags, tags_upward, AreStampsIn, IsStampIn, is_same_fields, is_same_props, seen_place, placed};
+ghost use Rattle.tree_revision.specs.Unchanged.{seen_below, shown_here, AreSeenIn, DoTreesStandIn, top_tags, tags_upward, AreStampsIn, IsStampIn, is_same_fields, seen_place, seen_by};
 
-use prop_table::NodeProps;
-use shadow_kinds::is_hidden;
+use shadow_kinds::{have_same_rows, is_hidden};
 use shadow_node::{Forest, NodeRef, ShadowNode, Stamps};
 use std::alloc::{AllocError, Global};
 use std::collections::BTreeMap;
@@ -32,7 +31,7 @@ type Places<'a> = BTreeMap<u32, Place<'a>>;
 
 /// Adds the place of a node, where its tag has none yet.
 fn add<'a>(places: &mut Places<'a>, node: &'a NodeRef, shown: bool) -> Result<(), AllocError>
-    ensures { OnOk result ((tag : ℕ) → placed places.new tag ≡ option_or (placed places.old tag) (if nat_eq node.now.value.fields.fields.tag tag then Some (record { tree = node.now.value; shown = shown }) else None)) }
+    ensures { OnOk result ((tag : ℕ) → seen_by places.new tag ≡ option_or (seen_by places.old tag) (if nat_eq node.now.value.fields.fields.tag tag then Some (record { tree = node.now.value; shown = shown }) else None)) }
 {
     let tag = node.tag();
     if !places.contains_key(&tag) {
@@ -45,12 +44,12 @@ fn add<'a>(places: &mut Places<'a>, node: &'a NodeRef, shown: bool) -> Result<()
 fn is_shown_here(above: bool, node: &ShadowNode) -> bool
     ensures { result ≡ shown_here above node.now.fields }
 {
-    above && !is_hidden(&node.props())
+    above && !is_hidden(node.props())
 }
 
 /// Adds the places of a forest in preorder, each where its tag has none yet.
 fn add_all<'a>(places: &mut Places<'a>, forest: &'a Forest, above: bool) -> Result<(), AllocError>
-    ensures { OnOk result ((tag : ℕ) → placed places.new tag ≡ option_or (placed places.old tag) (seen_below above tag forest.now)) }
+    ensures { OnOk result ((tag : ℕ) → seen_by places.new tag ≡ option_or (seen_by places.old tag) (seen_below above tag forest.now)) }
 {
     for node in forest.nodes() {
         let shown = is_shown_here(above, node);
@@ -60,20 +59,13 @@ fn add_all<'a>(places: &mut Places<'a>, forest: &'a Forest, above: bool) -> Resu
     Ok(())
 }
 
-/// Whether each row is the same.
-fn are_same_props(a: &NodeProps, b: &NodeProps) -> bool
-    ensures { result ≡ is_same_props a.now b.now }
-{
-    a.is_same(b)
-}
-
 /// Whether two nodes are equal, but for what is below them.
 fn has_same_fields(was: &ShadowNode, node: &ShadowNode) -> bool
     ensures { result ≡ is_same_fields was.now.fields node.now.fields }
 {
     was.tag() == node.tag()
         && was.kind() == node.kind()
-        && are_same_props(&was.props(), &node.props())
+        && have_same_rows(was.props(), node.props())
         && was.label().bytes() == node.label().bytes()
         && was.state() == node.state()
         && was.frame() == node.frame()

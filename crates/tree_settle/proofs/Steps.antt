@@ -12,12 +12,12 @@ use Rattle.shadow_node.specs.Fields.{SettledFields, contents_of}
 use Rattle.shadow_node.specs.Falls.{Shared, trees_of, forest_at}
 use Rattle.shadow_node.proofs.Trees.{trees_before, trees_before-push, trees_before-none, forest_at-drop_end}
 use Rattle.tree_settle.specs.Changes.{changes_in}
-use Rattle.tree_settle.specs.Walk.{HasRoom, settled_in, settled_tree}
+use Rattle.tree_settle.specs.Walk.{HasRoomInside, settled_in, settled_tree}
 
 -- room for a forest is room for what follows its first node
-pub HasRoom-rest : (size : Size) (all children siblings : PlainForest SettledFields) (settled : SettledFields) → all ≡ node settled children siblings
-    → HasRoom size (depth_of all) → HasRoom size (depth_of siblings)
-HasRoom-rest size all children siblings settled e room =
+pub HasRoomInside-rest : (size : Size) (all children siblings : PlainForest SettledFields) (settled : SettledFields) → all ≡ node settled children siblings
+    → HasRoomInside size (depth_of all) → HasRoomInside size (depth_of siblings)
+HasRoomInside-rest size all children siblings settled e room =
     let depth : depth_of all ≡ max (depth_of children + 1) (depth_of siblings) = ap depth_of e in
     record {
       width_low = room.width_low;

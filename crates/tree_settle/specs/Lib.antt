@@ -1,3 +1,4 @@
 pub mod Limits
 pub mod Changes
 pub mod Walk
+pub mod Along

@@ -51,7 +51,7 @@ abbrev pub IsTreeInBounds : PlainNode SettledFields → Type 0
 IsTreeInBounds tree = IsFrameInBounds tree.fields.frame × AreFramesInBounds tree.children
 
 -- a size that leaves room for a number of levels of nodes in it, of which each may be 2,000,000 points larger each way than the one above
-pub record HasRoom (size : Size) (levels : ℕ) : Type 0 where
+pub record HasRoomInside (size : Size) (levels : ℕ) : Type 0 where
   pub width_low : pos 0 ≤ℤ size.width
   pub width_high : (size.width +ℤ pos (2000000 * levels)) ≤ℤ pos 97000000
   pub height_low : pos 0 ≤ℤ size.height

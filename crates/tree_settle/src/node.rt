@@ -11,7 +11,7 @@ ghost use Rattle.shadow_node.specs.Frames as frames;
 ghost use Rattle.shadow_node.specs.Frames.{state_when};
 ghost use Rattle.shadow_node.specs.Sound.{FitsLeaf};
 ghost use Rattle.tree_settle.specs.Limits.{IsFrameInBounds};
-ghost use Rattle.tree_settle.specs.Walk.{HasRoom};
+ghost use Rattle.tree_settle.specs.Walk.{HasRoomInside};
 
 use native_state::{FamilyTable, StateCell};
 use shadow_frame::{Rect, Size, place};
@@ -32,12 +32,12 @@ pub(crate) fn state_in(families: &FamilyTable, node: &ShadowNode) -> Option<Stat
 
 /// The frame of a node in a parent of that size.
 pub(crate) fn frame_in(node: &ShadowNode, parent: Size) -> Rect
-    requires room { HasRoom parent 0 }
+    requires room { HasRoomInside parent 0 }
     ensures value { result ≡ frames.frame_in parent node.now.fields.fields }
     ensures bounds { IsFrameInBounds result }
-    ensures room { (levels : ℕ) → HasRoom parent (levels + 1) → HasRoom result.size levels }
+    ensures room { (levels : ℕ) → HasRoomInside parent (levels + 1) → HasRoomInside result.size levels }
 {
-    let (x, y) = axes_of(&node.props());
+    let (x, y) = axes_of(node.props());
     place(x, y, parent)
 }
 

@@ -8,7 +8,7 @@ ghost use Rattle.shadow_node.specs.Fields.{contents_of};
 ghost use Rattle.shadow_node.specs.Falls.{trees_of};
 ghost use Rattle.tree_settle.specs.Changes.{changes_in};
 ghost use Rattle.tree_settle.specs.Limits.{AreFramesInBounds};
-ghost use Rattle.tree_settle.specs.Walk.{HasRoom, IsTreeInBounds, begun_or, changes_of, settled_in, settled_tree, tree_or};
+ghost use Rattle.tree_settle.specs.Walk.{HasRoomInside, IsTreeInBounds, begun_or, changes_of, settled_in, settled_tree, tree_or};
 
 use crate::node::{frame_in, remade, state_in, stays};
 use native_state::FamilyTable;
@@ -84,7 +84,7 @@ fn settle_node(
     parent: Size,
     families: &FamilyTable,
 ) -> Result<Option<NodeRef>, AllocError>
-    requires room { HasRoom parent (depth_of node.now.children + 1) }
+    requires room { HasRoomInside parent (depth_of node.now.children + 1) }
     ensures node { IfOk result (λ new. tree_or new node.now ≡ settled_tree parent (cell_in families.now) node.now) }
     ensures changed { IfOk result (λ new. is_some new ≡ nat_lt 0 (changes_of parent (cell_in families.now) node.now)) }
     ensures bounds { OnOk result (IsTreeInBounds (settled_tree parent (cell_in families.now) node.now)) }
@@ -110,7 +110,7 @@ pub(crate) fn settle_in(
     parent: Size,
     families: &FamilyTable,
 ) -> Result<Option<Forest>, AllocError>
-    requires room { HasRoom parent (depth_of forest.now) }
+    requires room { HasRoomInside parent (depth_of forest.now) }
     ensures forest { IfOk result (λ new. unwrap_or new forest.now ≡ settled_in parent (cell_in families.now) (contents_of forest.now)) }
     ensures changed { IfOk result (λ new. is_some new ≡ nat_lt 0 (changes_in parent (cell_in families.now) forest.now)) }
     ensures bounds { OnOk result (AreFramesInBounds (settled_in parent (cell_in families.now) (contents_of forest.now))) }

@@ -18,7 +18,7 @@ use Rattle.shadow_node.specs.Pruned.{pruned, skipped_tags}
 use Rattle.view_flatten.specs.declared.sites.Found.{Found}
 use Rattle.view_flatten.specs.declared.sites.Host.{Host}
 use Rattle.view_flatten.specs.HostTree.{moved}
-use Rattle.view_flatten.specs.Sites.{PlainSite, AreSitesMarked, HasFound, HasRoom, HasRoomFor, begin_in, host_inside, own_site, plain_sites, shown_host, shown_site, shown_sites, sites_from, unless_hidden}
+use Rattle.view_flatten.specs.Sites.{PlainSite, AreSitesMarked, HasFound, HasRoomBelow, HasRoomFor, begin_in, host_inside, own_site, plain_sites, shown_host, shown_site, shown_sites, sites_from, unless_hidden}
 use Rattle.view_flatten.specs.Walks.{PlainWalk, entered_more}
 use Rattle.view_flatten.proofs.Distinct.{each_in_both, each_in_first}
 use Rattle.view_flatten.proofs.Reached.{outside_both}
@@ -190,23 +190,23 @@ entered_nothing walk i = record { forest = walk.forest; stamps = walk.stamps; en
     counts = omega arith
 
 -- there is room for fewer levels
-pub room_for_less : (less levels : ℕ) (host : Option Host) → less ≤ levels → HasRoom levels host → HasRoom less host
+pub room_for_less : (less levels : ℕ) (host : Option Host) → less ≤ levels → HasRoomBelow levels host → HasRoomBelow less host
 room_for_less less levels None le h = tt
 room_for_less less levels (Some host) le h = record { x_low = omega (arith, ints); x_high = omega (arith, ints); y_low = omega (arith, ints); y_high = omega (arith, ints) }
 
 -- and for a node that is shown as for any
-pub room_shown : (levels : ℕ) (host : Option Host) (settled : SettledFields) → HasRoom levels host → HasRoom levels (shown_host host settled)
+pub room_shown : (levels : ℕ) (host : Option Host) (settled : SettledFields) → HasRoomBelow levels host → HasRoomBelow levels (shown_host host settled)
 room_shown levels host settled h =
-    elim (is_hidden_of settled.fields.props) as (λ b. HasRoom levels (cond b None host)) [ true ↦ tt | false ↦ h ]
+    elim (is_hidden_of settled.fields.props) as (λ b. HasRoomBelow levels (cond b None host)) [ true ↦ tt | false ↦ h ]
 
 -- below it for one level less
-pub room_below_node : (levels : ℕ) (host : Option Host) (settled : SettledFields) → HasRoom (levels + 1) host → IsFrameInBounds settled.frame
-    → HasRoom levels (option_map (λ host. host_inside host settled) host)
+pub room_below_node : (levels : ℕ) (host : Option Host) (settled : SettledFields) → HasRoomBelow (levels + 1) host → IsFrameInBounds settled.frame
+    → HasRoomBelow levels (option_map (λ host. host_inside host settled) host)
 room_below_node levels None settled h k = tt
 room_below_node levels (Some host) settled h k = room_inside levels host settled h k
 
 -- where the node itself begins there is room too
-pub room_at_node : (levels : ℕ) (host : Option Host) (settled : SettledFields) → HasRoom (levels + 1) host → HasRoom 1 (shown_host host settled)
+pub room_at_node : (levels : ℕ) (host : Option Host) (settled : SettledFields) → HasRoomBelow (levels + 1) host → HasRoomBelow 1 (shown_host host settled)
 room_at_node levels host settled h = room_shown 1 host settled (room_for_less 1 (levels + 1) host (omega arith) h)
 
 -- a walk that enters a tree and then the later ones

@@ -120,6 +120,6 @@ pub record HasRoomFor (levels : ℕ) (place : Point) : Type 0 where
   pub y_high : (place.y +ℤ pos (105000000 * levels)) ≤ℤ pos 5040000000
 
 -- the same of the place where nodes with a host begin, if they are shown
-abbrev pub HasRoom : (levels : ℕ) → Option Host → Type 0
-HasRoom levels None = Unit {0}
-HasRoom levels (Some host) = HasRoomFor levels host.begin
+abbrev pub HasRoomBelow : (levels : ℕ) → Option Host → Type 0
+HasRoomBelow levels None = Unit {0}
+HasRoomBelow levels (Some host) = HasRoomFor levels host.begin

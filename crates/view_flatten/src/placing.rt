@@ -61,7 +61,7 @@ impl<'a> Placed<'a> {
     {
         let view = HostView {
             kind: self.spot.kind(),
-            props: self.spot.props(),
+            props: *self.spot.props(),
             label: self.spot.label().share()?,
             state: self.spot.state(),
             frame: self.frame(),

@@ -8,7 +8,7 @@ ghost use Rattle.shadow_node.specs.Forest.{depth_of, forest_of};
 ghost use Rattle.tree_settle.specs.Limits.{AreFramesInBounds, IsFrameInBounds};
 ghost use Rattle.view_flatten.specs.HostTree.{moved};
 ghost use Rattle.view_flatten.specs.Placed.{IsSameWalk};
-ghost use Rattle.view_flatten.specs.Sites.{AreSitesMarked, HasFound, HasRoom, HasRoomFor, IsAdded, host_inside, plain_site, root, shown_host, shown_site, site_in};
+ghost use Rattle.view_flatten.specs.Sites.{AreSitesMarked, HasFound, HasRoomBelow, HasRoomFor, IsAdded, host_inside, plain_site, root, shown_host, shown_site, site_in};
 ghost use Rattle.view_flatten.specs.Skips.{DoTagsRise, skips};
 ghost use Rattle.view_flatten.specs.Walks.{entered_more};
 
@@ -62,7 +62,7 @@ impl Host {
         requires frame { IsFrameInBounds spot.now.tree.fields.frame }
         ensures { result ≡ host_inside self spot.now.tree.fields }
     {
-        if forms_context(spot.kind(), &spot.props()) {
+        if forms_context(spot.kind(), spot.props()) {
             Host {
                 parent: spot.tag(),
                 begin: Point { x: 0, y: 0 },
@@ -103,12 +103,12 @@ fn begin_of(place: Point, frame: Rect) -> Point
 fn shown_host(host: Option<Host>, spot: &Spot) -> Option<Host>
     ensures { result ≡ shown_host host spot.now.tree.fields }
 {
-    if is_hidden(&spot.props()) { None } else { host }
+    if is_hidden(spot.props()) { None } else { host }
 }
 
 /// The host of what lies below a node, where it is shown.
 fn host_below(host: Option<Host>, spot: &Spot) -> Option<Host>
-    requires place { HasRoom 1 host }
+    requires place { HasRoomBelow 1 host }
     requires frame { IsFrameInBounds spot.now.tree.fields.frame }
     ensures { result ≡ option_map (λ host. host_inside host spot.now.tree.fields) host }
 {
@@ -128,7 +128,7 @@ fn site_of<'a>(spot: &Spot<'a>, host: Host, is_skipped: bool) -> Site<'a>
 {
     Site {
         parent: host.parent,
-        z: z_of(&spot.props()),
+        z: z_of(spot.props()),
         origin: begin_of(host.begin, spot.frame()),
         spot: spot.again(),
         is_skipped,
@@ -142,13 +142,13 @@ fn add_site<'a>(
     host: Option<Host>,
     is_skipped: bool,
 ) -> Result<(), AllocError>
-    requires place { HasRoom 1 host }
+    requires place { HasRoomBelow 1 host }
     requires frame { IsFrameInBounds spot.now.tree.fields.frame }
     ensures sites { OnOk result (IsAdded sites.old.items (shown_site host spot.now.tree.fields) sites.new.items) }
     ensures marked { OnOk result ((test : SettledFields → Bool) → is_skipped ≡ test spot.now.tree.fields → AreSitesMarked test sites.old.items → AreSitesMarked test sites.new.items) }
 {
     if let Some(host) = host {
-        if forms_view(spot.kind(), &spot.props()) {
+        if forms_view(spot.kind(), spot.props()) {
             sites.push(site_of(spot, host, is_skipped))?;
         }
     }
@@ -167,7 +167,7 @@ fn add_tree<'a>(
     requires rise { DoTagsRise skip.now }
     requires frame { IsFrameInBounds spot.now.tree.fields.frame }
     requires frames { AreFramesInBounds spot.now.tree.children }
-    requires room { HasRoom (depth_of spot.now.tree.children + 1) host }
+    requires room { HasRoomBelow (depth_of spot.now.tree.children + 1) host }
     ensures found { OnOk result (HasFound (skips skip.now spot.now.stamps) host (forest_of (spot.now.tree ∷ [])) found.old found.new) }
     ensures entered { OnOk result (walk.new ≡ entered_more walk.old (count_outside (skips skip.now spot.now.stamps) (forest_of (spot.now.tree ∷ [])))) }
     ensures same { IsSameWalk walk.old walk.new }
@@ -196,7 +196,7 @@ pub(crate) fn add_forest<'a>(
 ) -> Result<(), AllocError>
     requires rise { DoTagsRise skip.now }
     requires frames { AreFramesInBounds spots.forest }
-    requires room { HasRoom (depth_of spots.forest) host }
+    requires room { HasRoomBelow (depth_of spots.forest) host }
     ensures found { OnOk result (HasFound (skips skip.now spots.entry.stamps) host spots.entry.forest found.old found.new) }
     ensures entered { OnOk result (walk.new ≡ entered_more walk.old (count_outside (skips skip.now spots.entry.stamps) spots.entry.forest)) }
     ensures same { IsSameWalk walk.old walk.new }

@@ -25,7 +25,7 @@ impl<'a> Skip<'a> {
     {
         match self {
             Skip::Nothing => false,
-            Skip::Since(base) => forms_context(spot.kind(), &spot.props()) && spot.stamp() <= *base,
+            Skip::Since(base) => forms_context(spot.kind(), spot.props()) && spot.stamp() <= *base,
             Skip::Tags(tags) => tags.binary_search(&spot.tag()).is_ok(),
         }
     }

@@ -142,9 +142,9 @@ impl<'a> Spot<'a> {
         self.node.kind()
     }
 
-    pub fn props(&self) -> NodeProps
-        ensures props { result ≡ self.now.tree.fields.fields.props }
-        ensures in_range { AreNodeProps result }
+    pub fn props(&self) -> &NodeProps
+        ensures props { result.now ≡ self.now.tree.fields.fields.props }
+        ensures in_range { AreNodeProps result.now }
     {
         self.node.props()
     }

@@ -12,8 +12,8 @@ use Rattle.view_flatten.specs.declared.placing.Placed.{Placed}
 use Rattle.host_views.specs.Plain.{PlainHostTree, create, delete, host_tags, children_at}
 use Rattle.view_mutation.specs.Mutations.{view_at, removes_at, inserts_at}
 use Rattle.view_mutation.specs.Shorthands.{deletes, creates, updates, host_parents}
-use Rattle.view_mutation.specs.Children.{AreFew, removes_by, inserts_by}
-use Rattle.view_mutation.specs.Lookups.{deletes_by, creates_by, updates_by, indexed, place_at, place_by}
+use Rattle.view_mutation.specs.Children.{HaveFewChildren, removes_by, inserts_by}
+use Rattle.view_mutation.specs.Lookups.{deletes_by, creates_by, updates_by, view_by, place_at, place_by}
 use Rattle.view_flatten.specs.Placed.{plain_place, plain_places}
 
 -- the view of a tag is that of its first place
@@ -26,7 +26,7 @@ view_at_places (placed ∷ others) tag =
     ]
 
 -- by an index of places it is found
-pub indexed_views : (index : BTreeMap ℕ ℕ) (places : List Placed) → ((tag : ℕ) → place_by index places tag ≡ place_at places tag) → (tag : ℕ) → indexed index places tag ≡ view_at (plain_places places) tag
+pub indexed_views : (index : BTreeMap ℕ ℕ) (places : List Placed) → ((tag : ℕ) → place_by index places tag ≡ place_at places tag) → (tag : ℕ) → view_by index places tag ≡ view_at (plain_places places) tag
 indexed_views index places h tag = ap (option_map (λ placed. (plain_place placed).view)) (h tag) ∙ view_at_places places tag
 
 -- the first place from an index on: that one where it has the tag, and else the first one after it
@@ -86,7 +86,7 @@ children_le (placed ∷ others) parent =
     ]
 
 -- a tree of few views has few children at each host parent
-pub few_children : (children : ℕ → List ℕ) (views : List Placed) → length views ≤ 2000 → ((parent : ℕ) → children parent ≡ children_at (plain_places views) parent) → AreFew children
+pub few_children : (children : ℕ → List ℕ) (views : List Placed) → length views ≤ 2000 → ((parent : ℕ) → children parent ≡ children_at (plain_places views) parent) → HaveFewChildren children
 few_children children views few h parent =
     let count : length (children parent) ≡ length (children_at (plain_places views) parent) = ap length (h parent) in
     omega (arith, count, children_le (plain_places views) parent, length-map views plain_place)

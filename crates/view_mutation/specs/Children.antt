@@ -9,12 +9,12 @@ use Rattle.host_views.specs.Plain.{PlainMutation}
 use Rattle.view_mutation.specs.Mutations.{common_prefix, removes_from, inserts_from}
 
 -- the children that an index has at a host parent
-abbrev pub listed : BTreeMap ℕ (Vec ℕ Global) → ℕ → List ℕ
-listed index parent = unwrap_or (option_map (λ tags. tags.items) (get nat_cmp index parent)) []
+abbrev pub children_by : BTreeMap ℕ (Vec ℕ Global) → ℕ → List ℕ
+children_by index parent = unwrap_or (option_map (λ tags. tags.items) (get nat_cmp index parent)) []
 
 -- a host parent has at most 2,000 children
-abbrev pub AreFew : (ℕ → List ℕ) → Type 0
-AreFew children = (parent : ℕ) → length (children parent) ≤ 2000
+abbrev pub HaveFewChildren : (ℕ → List ℕ) → Type 0
+HaveFewChildren children = (parent : ℕ) → length (children parent) ≤ 2000
 
 -- how many children of a host parent stay, by what is known of both trees
 abbrev pub stay_by : (old new : ℕ → List ℕ) → ℕ → ℕ

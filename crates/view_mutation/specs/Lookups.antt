@@ -20,8 +20,8 @@ abbrev pub place_by : BTreeMap ℕ ℕ → List Placed → ℕ → Option Placed
 place_by index places tag = option_and_then (λ at. slice_get places at) (get nat_cmp index tag)
 
 -- the view of a tag by an index of places
-abbrev pub indexed : BTreeMap ℕ ℕ → List Placed → ℕ → Option HostView
-indexed index places tag = option_map (λ placed. (plain_place placed).view) (place_by index places tag)
+abbrev pub view_by : BTreeMap ℕ ℕ → List Placed → ℕ → Option HostView
+view_by index places tag = option_map (λ placed. (plain_place placed).view) (place_by index places tag)
 
 -- deletes of the views whose tags are not known
 abbrev pub deletes_by : (ℕ → Option HostView) → PlainHostTree → List PlainMutation

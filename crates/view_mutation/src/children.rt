@@ -5,7 +5,7 @@ ghost use Rattle.std.specs.List.{flat_map};
 ghost use Rattle.host_views.specs.Plain.{children_at, host_tags};
 ghost use Rattle.view_flatten.specs.Placed.{plain_place, plain_places};
 ghost use Rattle.view_mutation.specs.Mutations.{common_prefix, inserts_from, removes_from};
-ghost use Rattle.view_mutation.specs.Children.{AreFew, inserts_by, listed, removes_by};
+ghost use Rattle.view_mutation.specs.Children.{HaveFewChildren, inserts_by, children_by, removes_by};
 ghost use Rattle.view_mutation.specs.Lookups.{IsListed};
 
 use host_views::Mutation;
@@ -19,7 +19,7 @@ pub type Children = BTreeMap<u32, Vec<u32>>;
 
 /// Adds a view to the children of its host parent, as the last one.
 fn add_child(children: &mut Children, placed: &Placed<'_>) -> Result<(), AllocError>
-    ensures { OnOk result ((parent : ℕ) → listed children.new parent ≡ listed children.old parent ++ children_at (plain_place placed.now ∷ []) parent) }
+    ensures { OnOk result ((parent : ℕ) → children_by children.new parent ≡ children_by children.old parent ++ children_at (plain_place placed.now ∷ []) parent) }
 {
     children
         .entry(placed.parent)?
@@ -30,7 +30,7 @@ fn add_child(children: &mut Children, placed: &Placed<'_>) -> Result<(), AllocEr
 
 /// The children of each host parent of a tree.
 pub fn children_of(alloc: Global, places: &[Placed<'_>]) -> Result<Children, AllocError>
-    ensures { IfOk result (λ children. (parent : ℕ) → listed children parent ≡ children_at (plain_places places.now) parent) }
+    ensures { IfOk result (λ children. (parent : ℕ) → children_by children parent ≡ children_at (plain_places places.now) parent) }
 {
     let mut children = BTreeMap::new(alloc);
     for placed in places {
@@ -41,7 +41,7 @@ pub fn children_of(alloc: Global, places: &[Placed<'_>]) -> Result<Children, All
 
 /// The children of a host parent; one that the tree does not have has none.
 fn tags_at(children: &Children, parent: u32) -> &[u32]
-    ensures { result.now ≡ listed children.now parent }
+    ensures { result.now ≡ children_by children.now parent }
 {
     match children.get(&parent) {
         Some(tags) => tags.as_slice(),
@@ -92,8 +92,8 @@ fn add_removes_at(
     new: &Children,
     parent: u32,
 ) -> Result<(), AllocError>
-    requires { AreFew (listed old.now) }
-    ensures { OnOk result (IsListed list.old (removes_by (listed old.now) (listed new.now) parent) list.new) }
+    requires { HaveFewChildren (children_by old.now) }
+    ensures { OnOk result (IsListed list.old (removes_by (children_by old.now) (children_by new.now) parent) list.new) }
 {
     let tags = tags_at(old, parent);
     let stay = staying(tags, tags_at(new, parent));
@@ -107,8 +107,8 @@ pub fn add_removes(
     old: &Children,
     new: &Children,
 ) -> Result<(), AllocError>
-    requires { AreFew (listed old.now) }
-    ensures { OnOk result (IsListed list.old (flat_map (removes_by (listed old.now) (listed new.now)) (0 ∷ host_tags (plain_places places.now))) list.new) }
+    requires { HaveFewChildren (children_by old.now) }
+    ensures { OnOk result (IsListed list.old (flat_map (removes_by (children_by old.now) (children_by new.now)) (0 ∷ host_tags (plain_places places.now))) list.new) }
 {
     add_removes_at(list, old, new, 0)?;
     for placed in places {
@@ -145,8 +145,8 @@ fn add_inserts_at(
     new: &Children,
     parent: u32,
 ) -> Result<(), AllocError>
-    requires { AreFew (listed new.now) }
-    ensures { OnOk result (IsListed list.old (inserts_by (listed old.now) (listed new.now) parent) list.new) }
+    requires { HaveFewChildren (children_by new.now) }
+    ensures { OnOk result (IsListed list.old (inserts_by (children_by old.now) (children_by new.now) parent) list.new) }
 {
     let tags = tags_at(new, parent);
     let stay = staying(tags_at(old, parent), tags);
@@ -160,8 +160,8 @@ pub fn add_inserts(
     old: &Children,
     new: &Children,
 ) -> Result<(), AllocError>
-    requires { AreFew (listed new.now) }
-    ensures { OnOk result (IsListed list.old (flat_map (inserts_by (listed old.now) (listed new.now)) (0 ∷ host_tags (plain_places places.now))) list.new) }
+    requires { HaveFewChildren (children_by new.now) }
+    ensures { OnOk result (IsListed list.old (flat_map (inserts_by (children_by old.now) (children_by new.now)) (0 ∷ host_tags (plain_places places.now))) list.new) }
 {
     add_inserts_at(list, old, new, 0)?;
     for placed in places {

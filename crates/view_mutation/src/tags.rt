@@ -3,14 +3,14 @@
 ghost use Rattle.std.specs.Prelude.{◌≡◌, ℕ, [], ◌∷◌, IfOk, OnOk, Option};
 ghost use Rattle.std.specs.List.{All};
 ghost use Rattle.std.specs.Option.{option_copied, option_map};
-ghost use Rattle.host_views.specs.Same.{is_same_props, is_same_view};
+ghost use Rattle.host_views.specs.Same.{is_same_view};
 ghost use Rattle.view_flatten.specs.Placed.{plain_place, plain_places};
 ghost use Rattle.view_mutation.specs.Mutations.{is_other_view};
-ghost use Rattle.view_mutation.specs.Lookups.{IsListed, creates_by, deletes_by, indexed, place_at, place_by, updates_by};
+ghost use Rattle.view_mutation.specs.Lookups.{IsListed, creates_by, deletes_by, view_by, place_at, place_by, updates_by};
 ghost use Rattle.view_mutation.specs.SameSkipped.{IsSameAsBefore, IsSameButOrigin};
 
 use host_views::Mutation;
-use prop_table::NodeProps;
+use shadow_kinds::have_same_rows;
 use sqlite_items::Items;
 use std::alloc::{AllocError, Global};
 use std::collections::BTreeMap;
@@ -45,7 +45,7 @@ fn add_delete(
     known: &[Placed<'_>],
     index: &Index,
 ) -> Result<(), AllocError>
-    ensures { OnOk result (IsListed list.old (deletes_by (indexed index.now known.now) (plain_place placed.now ∷ [])) list.new) }
+    ensures { OnOk result (IsListed list.old (deletes_by (view_by index.now known.now) (plain_place placed.now ∷ [])) list.new) }
 {
     let tag = placed.tag();
     if place_of(known, index, tag).is_some() {
@@ -62,7 +62,7 @@ pub fn add_deletes(
     known: &[Placed<'_>],
     index: &Index,
 ) -> Result<(), AllocError>
-    ensures { OnOk result (IsListed list.old (deletes_by (indexed index.now known.now) (plain_places old.now)) list.new) }
+    ensures { OnOk result (IsListed list.old (deletes_by (view_by index.now known.now) (plain_places old.now)) list.new) }
 {
     for placed in old {
         add_delete(list, placed, known, index)?;
@@ -78,7 +78,7 @@ fn add_create(
     known: &[Placed<'_>],
     index: &Index,
 ) -> Result<(), AllocError>
-    ensures { OnOk result (IsListed list.old (creates_by (indexed index.now known.now) (plain_place placed.now ∷ [])) list.new) }
+    ensures { OnOk result (IsListed list.old (creates_by (view_by index.now known.now) (plain_place placed.now ∷ [])) list.new) }
 {
     let tag = placed.tag();
     if place_of(known, index, tag).is_some() {
@@ -97,19 +97,12 @@ pub fn add_creates(
     known: &[Placed<'_>],
     index: &Index,
 ) -> Result<(), AllocError>
-    ensures { OnOk result (IsListed list.old (creates_by (indexed index.now known.now) (plain_places new.now)) list.new) }
+    ensures { OnOk result (IsListed list.old (creates_by (view_by index.now known.now) (plain_places new.now)) list.new) }
 {
     for placed in new {
         add_create(alloc, list, placed, known, index)?;
     }
     Ok(())
-}
-
-/// Whether each row is the same.
-fn are_same_props(a: &NodeProps, b: &NodeProps) -> bool
-    ensures { result ≡ is_same_props a.now b.now }
-{
-    a.is_same(b)
 }
 
 /// Whether the views at two places are equal in every part. Those of nodes that were not entered
@@ -122,7 +115,7 @@ fn is_same(was: &Placed<'_>, is: &Placed<'_>) -> bool
         return was.origin == is.origin;
     }
     was.spot.kind() == is.spot.kind()
-        && are_same_props(&was.spot.props(), &is.spot.props())
+        && have_same_rows(was.spot.props(), is.spot.props())
         && was.spot.label().bytes() == is.spot.label().bytes()
         && was.spot.state() == is.spot.state()
         && was.frame() == is.frame()
@@ -148,7 +141,7 @@ fn add_update(
     index: &Index,
 ) -> Result<(), AllocError>
     requires { IsSameAsBefore (place_by index.now known.now (plain_place placed.now).tag) placed.now }
-    ensures { OnOk result (IsListed list.old (updates_by (indexed index.now known.now) (plain_place placed.now ∷ [])) list.new) }
+    ensures { OnOk result (IsListed list.old (updates_by (view_by index.now known.now) (plain_place placed.now ∷ [])) list.new) }
 {
     let tag = placed.tag();
     if !is_other(place_of(known, index, tag), placed) {
@@ -168,7 +161,7 @@ pub fn add_updates(
     index: &Index,
 ) -> Result<(), AllocError>
     requires { All (λ placed. IsSameAsBefore (place_by index.now known.now (plain_place placed).tag) placed) new.now }
-    ensures { OnOk result (IsListed list.old (updates_by (indexed index.now known.now) (plain_places new.now)) list.new) }
+    ensures { OnOk result (IsListed list.old (updates_by (view_by index.now known.now) (plain_places new.now)) list.new) }
 {
     for placed in new {
         add_update(alloc, list, placed, known, index)?;

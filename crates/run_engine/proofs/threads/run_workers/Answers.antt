@@ -10,7 +10,7 @@ use Rattle.commit_spine.specs.SpinePasses.{PassValue}
 use Rattle.run_engine.specs.declared.jobs.Job.{Job}
 use Rattle.run_engine.specs.Opening.{AreOpenings}
 use Rattle.run_engine.specs.Workers.{HaveWorked}
-use Rattle.run_engine.specs.Jobs.{AreDone, AreGathered, AreJobsAtStart, AreRun, IsUnmounted, MayGather, MayGiveAll, MayRunEach, after_own_passes}
+use Rattle.run_engine.specs.Jobs.{AreDone, AreHandedBack, AreJobsAtStart, AreRun, IsUnmounted, MayGather, MayGiveAll, MayRunEach, after_own_passes}
 use Rattle.run_engine.proofs.Openings.{ids_are, keys_map, numbers_are_zero}
 use Rattle.run_engine.proofs.JobsGather.{actor_of}
 use Rattle.run_engine.proofs.Places.{if_ok_both, written_back}
@@ -96,14 +96,14 @@ returns g c =
     let ran : AreRun spines jobs after = subst (λ (l : List Job). AreRun spines l after) c.deref_mut.ensures.value c.in_ok-run_jobs.ensures in
     let whole = written_back jobs after c.in_ok-jobs.jobs.len ran.count (omega (arith, c.in_ok-jobs.jobs.ok.0)) in
     let done : AreDone script.surfaces script.actors after = are_done script c.requires.sound spines passes c.requires.passes first openings jobs starts after ran mounts unmounted in
-    let none : AreGathered script.surfaces [] [] c.jobs_of.new.passes.entries c.jobs_of.new.passes.entries mounts =
-    subst (λ (l : List (ℕ × PassValue)). AreGathered script.surfaces [] [] l l mounts) (sym shared)
+    let none : AreHandedBack script.surfaces [] [] c.jobs_of.new.passes.entries c.jobs_of.new.passes.entries mounts =
+    subst (λ (l : List (ℕ × PassValue)). AreHandedBack script.surfaces [] [] l l mounts) (sym shared)
     (none_gathered script c.requires.sound spines passes c.requires.passes first openings jobs starts after ran mounts unmounted) in
     record {
       worked = if_ok_both c.gather.result _ _ (λ worked. HaveWorked script passes c.gather.new.passes.entries worked.actors.items worked.mounts.items)
           (λ worked actors gathered. have_worked script c.requires.sound spines passes c.requires.passes first openings jobs starts after ran mounts unmounted
           c.gather.new.passes.entries worked.actors.items worked.mounts.items (actors ∙ ap (map actor_of) whole)
-          (subst (λ (l : List (ℕ × PassValue)). AreGathered script.surfaces script.actors worked.actors.items l c.gather.new.passes.entries worked.mounts.items) shared
+          (subst (λ (l : List (ℕ × PassValue)). AreHandedBack script.surfaces script.actors worked.actors.items l c.gather.new.passes.entries worked.mounts.items) shared
           (gathered script.surfaces script.actors (subst (AreDone script.surfaces script.actors) (sym whole) done) none)))
           c.gather.ensures.actors c.gather.ensures.gathered;
     }

@@ -3,7 +3,7 @@ use Rattle.shadow_node.specs.Forest.{node_count}
 use Rattle.std.specs.Option.{option_or}
 use Rattle.shadow_node.specs.Find.{first_settled}
 use Rattle.shadow_node.specs.Falls.{forest_at}
-use Rattle.tree_build.specs.Index.{indexed}
+use Rattle.tree_build.specs.Index.{found_by}
 use Rattle.tree_build.proofs.held.+add_all.Given as goal
 
 abbrev pub decreases-add_all : goal.decreases-add_all
@@ -12,7 +12,7 @@ decreases-add_all l = goal.size-add_all l
 abbrev pub invariant-loop-node : goal.invariant-loop-node
 invariant-loop-node l = record {
   whole : forest_at l.node-items ≡ l.forest;
-  left : (tag : ℕ) → option_or (indexed l.index tag) (first_settled tag (forest_at (drop l.node-index l.node-items)))
-      ≡ option_or (indexed l.initial.index tag) (first_settled tag l.forest);
+  left : (tag : ℕ) → option_or (found_by l.index tag) (first_settled tag (forest_at (drop l.node-index l.node-items)))
+      ≡ option_or (found_by l.initial.index tag) (first_settled tag l.forest);
   within : node_count (forest_at (drop l.node-index l.node-items)) ≤ node_count l.forest;
 }

@@ -11,7 +11,7 @@ use Rattle.tree_settle.specs.Walk.{begun_or, changes_of, settled_in}
 use Rattle.tree_settle.proofs.Settled.{FitsLeaf-settled}
 use Rattle.tree_settle.proofs.Stays.{tree_stays, none_changes, one_more_changes}
 use Rattle.tree_settle.proofs.Lists.{taken_more, take_all, not_begun, is_begun}
-use Rattle.tree_settle.proofs.Steps.{HasRoom-rest, settled-pushed, settled-end, none_left, fewer_left, nodes_more-more, some_more}
+use Rattle.tree_settle.proofs.Steps.{HasRoomInside-rest, settled-pushed, settled-end, none_left, fewer_left, nodes_more-more, some_more}
 use Rattle.tree_settle.proofs.walk.+settle.Goals as goal
 
 pub settle_node-returns-then-stays-clause-node : goal.settle_node-returns-then-stays-clause-node
@@ -48,7 +48,7 @@ settle_in-loop-at-preserved t c =
     let tree = rw c.deref.ensures at c.in_ok-new.ensures.bounds in
     record {
       within = omega (arith, count, c.loop-at.invariant.within);
-      room = HasRoom-rest c.args.parent (forest_at (drop c.loop-at.at c.nodes-nodes.result.now)) c.index-nodes-at.result.value.children (forest_at (drop (c.loop-at.at + 1) c.nodes-nodes.result.now)) c.index-nodes-at.result.value.fields left c.loop-at.invariant.room;
+      room = HasRoomInside-rest c.args.parent (forest_at (drop c.loop-at.at c.nodes-nodes.result.now)) c.index-nodes-at.result.value.children (forest_at (drop (c.loop-at.at + 1) c.nodes-nodes.result.now)) c.index-nodes-at.result.value.fields left c.loop-at.invariant.room;
       settled = settled-pushed c.args.parent (cell_in c.args.families.now) _ _ _ c.index-nodes-at.result.value _ (trees_of (begun_or c.loop-at.all.items (take c.loop-at.at c.nodes-nodes.result.now))) _ left
           (rw c.deref.ensures at c.in_ok-new.ensures.node) (rw taken c.in_ok-push_settled.ensures.nodes) c.loop-at.invariant.settled;
       bounds = λ later. c.loop-at.invariant.bounds (subst (λ (f : PlainForest SettledFields). AreFramesInBounds (settled_in c.args.parent (cell_in c.args.families.now) (contents_of f))) (sym left) (tree.0, tree.1, later));

@@ -8,7 +8,7 @@ use Rattle.shadow_node.specs.Falls.{trees_of, forest_at}
 use Rattle.shadow_node.proofs.Trees.{trees_before}
 use Rattle.tree_settle.specs.Changes.{changes_in}
 use Rattle.tree_settle.specs.Limits.{AreFramesInBounds}
-use Rattle.tree_settle.specs.Walk.{HasRoom, begun_or, settled_in}
+use Rattle.tree_settle.specs.Walk.{HasRoomInside, begun_or, settled_in}
 use Rattle.tree_settle.proofs.walk.+settle.Given as goal
 
 abbrev pub decreases-settle_node : goal.decreases-settle_node
@@ -20,7 +20,7 @@ decreases-settle_in l = 2 * node_count l.forest.now
 abbrev pub invariant-settle_in-loop-at : goal.invariant-settle_in-loop-at
 invariant-settle_in-loop-at l = record {
   within : node_count (forest_at (drop l.at l.nodes)) ≤ node_count l.forest;
-  room : HasRoom l.parent (depth_of (forest_at (drop l.at l.nodes)));
+  room : HasRoomInside l.parent (depth_of (forest_at (drop l.at l.nodes)));
   settled : trees_before (trees_of (begun_or l.all.items (take l.at l.nodes))) (settled_in l.parent (cell_in l.families) (contents_of (forest_at (drop l.at l.nodes)))) ≡ settled_in l.parent (cell_in l.families) (contents_of l.forest);
   bounds : AreFramesInBounds (settled_in l.parent (cell_in l.families) (contents_of (forest_at (drop l.at l.nodes)))) → AreFramesInBounds (settled_in l.parent (cell_in l.families) (contents_of l.forest));
   least : changes_in l.parent (cell_in l.families) (forest_at (drop l.at l.nodes)) ≤ changes_in l.parent (cell_in l.families) l.forest;

@@ -6,7 +6,7 @@ use Rattle.shadow_node.specs.Entered.{count_outside}
 use Rattle.shadow_node.specs.Forest.{none, node, node_count, depth_of}
 use Rattle.tree_settle.specs.Limits.{AreFramesInBounds}
 use Rattle.view_flatten.specs.declared.sites.Found.{Found}
-use Rattle.view_flatten.specs.Sites.{HasFound, HasRoom, IsAdded, host_inside, shown_host, shown_site}
+use Rattle.view_flatten.specs.Sites.{HasFound, HasRoomBelow, IsAdded, host_inside, shown_host, shown_site}
 use Rattle.view_flatten.specs.Skips.{skips}
 use Rattle.view_flatten.specs.Walks.{PlainSpots, entered_more}
 use Rattle.view_flatten.proofs.Added.{found_both, found_entered, found_none, found_skipped, entered_both, entered_not, entered_own, room_at_node, room_below_node, room_for_less, room_shown}
@@ -54,18 +54,18 @@ add_forest-returns-clause-found t c =
 pub add_tree-add_site-requires-clause-place : goal.add_tree-add_site-requires-clause-place
 add_tree-add_site-requires-clause-place t c =
     let fields = c.args.spot.now.tree.fields in
-    subst (HasRoom 1) (sym c.shown_host-host.ensures) (room_at_node (depth_of c.args.spot.now.tree.children) c.args.host fields c.requires.room)
+    subst (HasRoomBelow 1) (sym c.shown_host-host.ensures) (room_at_node (depth_of c.args.spot.now.tree.children) c.args.host fields c.requires.room)
 
 pub add_tree-host_below-host_below-requires-clause-place :
     goal.add_tree-host_below-host_below-requires-clause-place
 add_tree-host_below-host_below-requires-clause-place t c =
     let fields = c.args.spot.now.tree.fields in
-    subst (HasRoom 1) (sym c.shown_host-host.ensures) (room_at_node (depth_of c.args.spot.now.tree.children) c.args.host fields c.requires.room)
+    subst (HasRoomBelow 1) (sym c.shown_host-host.ensures) (room_at_node (depth_of c.args.spot.now.tree.children) c.args.host fields c.requires.room)
 
 pub add_tree-add_site-requires-2-clause-place : goal.add_tree-add_site-requires-2-clause-place
 add_tree-add_site-requires-2-clause-place t c =
     let fields = c.args.spot.now.tree.fields in
-    subst (HasRoom 1) (sym c.shown_host-host.ensures) (room_at_node (depth_of c.args.spot.now.tree.children) c.args.host fields c.requires.room)
+    subst (HasRoomBelow 1) (sym c.shown_host-host.ensures) (room_at_node (depth_of c.args.spot.now.tree.children) c.args.host fields c.requires.room)
 
 pub add_tree-returns-then-skips-clause-found : goal.add_tree-returns-then-skips-clause-found
 add_tree-returns-then-skips-clause-found t c =

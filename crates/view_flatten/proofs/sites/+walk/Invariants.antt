@@ -4,7 +4,7 @@ use Rattle.shadow_node.specs.Forest.{node_count, depth_of}
 use Rattle.tree_settle.specs.Limits.{AreFramesInBounds}
 use Rattle.view_flatten.specs.declared.sites.Found.{Found}
 use Rattle.view_flatten.specs.Placed.{IsSameWalk}
-use Rattle.view_flatten.specs.Sites.{HasFound, HasRoom}
+use Rattle.view_flatten.specs.Sites.{HasFound, HasRoomBelow}
 use Rattle.view_flatten.specs.Skips.{skips}
 use Rattle.view_flatten.specs.Walks.{entered_more}
 use Rattle.view_flatten.proofs.sites.+walk.Given as goal
@@ -26,6 +26,6 @@ invariant-add_forest-loop-spot l = record {
       ≡ entered_more l.initial.walk (count_outside (skips l.skip l.fn.spots.stamps) l.fn.spots.forest);
   same : IsSameWalk l.initial.walk l.walk;
   within : node_count l.spot-iterator.forest ≤ node_count l.fn.spots.forest;
-  room : HasRoom (depth_of l.spot-iterator.forest) l.host;
+  room : HasRoomBelow (depth_of l.spot-iterator.forest) l.host;
   frames : AreFramesInBounds l.spot-iterator.forest;
 }

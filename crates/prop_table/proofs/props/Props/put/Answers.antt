@@ -1,7 +1,7 @@
 use Rattle.std.proofs.Common.{◌≡◌, ◌∙◌, FitsSigned, rules, to_z, of_z, w64, ap, is_some, slice_set}
 use Rattle.std.proofs.lemmas.Int.{to_z-of_z}
 use Rattle.prop_table.specs.Slots.{number_if, number_or_zero}
-use Rattle.prop_table.proofs.Joined.{joined-put, AreJoined-put, AreJoined-count}
+use Rattle.prop_table.proofs.Joined.{zipped-put, AreZipped-put, AreZipped-count}
 use Rattle.prop_table.proofs.Slots.{number_back}
 use Rattle.prop_table.proofs.props.Props.put.Goals as goal
 
@@ -10,14 +10,14 @@ invariant_of-self g c =
     let fits : FitsSigned w64 c.unwrap_or.result = search rules in
     let number : to_z w64 (of_z w64 c.unwrap_or.result) ≡ number_or_zero c.args.value = to_z-of_z w64 c.unwrap_or.result fits ∙ c.unwrap_or.ensures in
     rw (number, c.is_some.ensures)
-    (AreJoined-put number_if is_some number_or_zero g.row.N c.self.inside.given c.self.inside.numbers c.args.row c.args.value (number_back c.args.value) c.self.invariant)
+    (AreZipped-put number_if is_some number_or_zero g.row.N c.self.inside.given c.self.inside.numbers c.args.row c.args.value (number_back c.args.value) c.self.invariant)
 
 pub returns-clause-value : goal.returns-clause-value
 returns-clause-value g c =
     let fits : FitsSigned w64 c.unwrap_or.result = search rules in
     let number : to_z w64 (of_z w64 c.unwrap_or.result) ≡ number_or_zero c.args.value = to_z-of_z w64 c.unwrap_or.result fits ∙ c.unwrap_or.ensures in
     rw (number, c.is_some.ensures)
-    (joined-put number_if is_some number_or_zero g.row.N c.self.inside.given c.self.inside.numbers c.args.row c.args.value (number_back c.args.value) c.self.invariant
+    (zipped-put number_if is_some number_or_zero g.row.N c.self.inside.given c.self.inside.numbers c.args.row c.args.value (number_back c.args.value) c.self.invariant
     ∙ ap (λ props. slice_set props c.args.row c.args.value) c.self.view_is)
 
 pub returns-clause-count : goal.returns-clause-count
@@ -25,5 +25,5 @@ returns-clause-count g c =
     let fits : FitsSigned w64 c.unwrap_or.result = search rules in
     let number : to_z w64 (of_z w64 c.unwrap_or.result) ≡ number_or_zero c.args.value = to_z-of_z w64 c.unwrap_or.result fits ∙ c.unwrap_or.ensures in
     rw (number, c.is_some.ensures)
-    (AreJoined-count number_if is_some number_or_zero g.row.N _ _
-    (AreJoined-put number_if is_some number_or_zero g.row.N c.self.inside.given c.self.inside.numbers c.args.row c.args.value (number_back c.args.value) c.self.invariant))
+    (AreZipped-count number_if is_some number_or_zero g.row.N _ _
+    (AreZipped-put number_if is_some number_or_zero g.row.N c.self.inside.given c.self.inside.numbers c.args.row c.args.value (number_back c.args.value) c.self.invariant))

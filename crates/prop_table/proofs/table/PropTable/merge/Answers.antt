@@ -1,6 +1,6 @@
 use Rattle.std.proofs.Common.{◌≡◌, ◌∙◌, ◌<◌, length, ap, sym, arith}
 use Rattle.std.proofs.lemmas.Grind.{common_steps}
-use Rattle.prop_table.specs.Edits.{merged, edited}
+use Rattle.prop_table.specs.Edits.{merged, with_edit}
 use Rattle.prop_table.specs.Rules.{rules_of}
 use Rattle.prop_table.proofs.Merging.{merged-empty, merged-step, AreInRows-merged}
 use Rattle.prop_table.proofs.table.PropTable.merge.Goals as goal
@@ -11,7 +11,7 @@ loop-row-init g c = sym (merged-empty c.args.props.now)
 pub loop-row-preserved : goal.loop-row-preserved
 loop-row-preserved g c =
     let within : c.loop-row.row < length c.args.edit.now = omega arith in
-    c.follow.ensures ∙ ap (λ props. edited props c.loop-row.row c.get.result) c.loop-row.invariant
+    c.follow.ensures ∙ ap (λ props. with_edit props c.loop-row.row c.get.result) c.loop-row.invariant
     ∙ merged-step c.args.props.now c.args.edit.now c.loop-row.row c.get.result within c.get.ensures
 
 pub returns-clause-rows : goal.returns-clause-rows

@@ -8,7 +8,7 @@ use Rattle.script_read.specs.Plain.{plain_script, plain_surface, plain_actor}
 use Rattle.script_read.specs.declared.script.ActorPlan.{ActorPlan}
 use Rattle.script_read.specs.declared.script.SurfacePlan.{SurfacePlan}
 use Rattle.commit_core.specs.declared.plain_parts.PlainSpine.{PlainSpine}
-use Rattle.run_report.specs.Shorthands.{opened, begun}
+use Rattle.run_report.specs.Shorthands.{surface_at_start, begun}
 use Rattle.run_report.proofs.Pairs.{all_zip_length}
 use Rattle.run_engine.specs.Opening.{IsHistory, AreHistories, AreDesksAtStart, AreWorkersAtStart}
 use Rattle.run_engine.proofs.Openings.{keys_map, numbers_are_zero, ids_are}
@@ -66,7 +66,7 @@ returns-clause-come c =
       sound = c.requires.sound;
       turns = [];
       now = λ i. record {
-        surfaces = (opened_all surfaces plans first c.in_ok-desks.desks.entries c.in_ok-first.ensures desks ∙ ap (λ (l : List SurfacePlan). map opened (map plain_surface l)) c.as_slice.ensures) i;
+        surfaces = (opened_all surfaces plans first c.in_ok-desks.desks.entries c.in_ok-first.ensures desks ∙ ap (λ (l : List SurfacePlan). map surface_at_start (map plain_surface l)) c.as_slice.ensures) i;
         actors = (workers.now ∙ ap (λ (l : List ActorPlan). map begun (map plain_actor l)) c.as_slice-actors.ensures) i;
       };
       order = starts_in_order surfaces plans first c.in_ok-desks.desks.entries c.in_ok-workers.workers.items c.in_ok-first.ensures ids desks workers;
@@ -82,6 +82,6 @@ returns-clause-now c =
     (c.in_ok-desks.ensures (map begun plans)
     (subst (λ (l : List (ℕ × KeptRevision)). AreHistories (map begun plans) l c.in_ok-spines.spines.items) (c.deref.ensures.value ∙ sym c.deref-4.ensures.value) c.in_ok-spines.ensures)) in
     λ i. record {
-      surfaces = (opened_all surfaces plans first c.in_ok-desks.desks.entries c.in_ok-first.ensures desks ∙ ap (λ (l : List SurfacePlan). map opened (map plain_surface l)) c.as_slice.ensures) i;
+      surfaces = (opened_all surfaces plans first c.in_ok-desks.desks.entries c.in_ok-first.ensures desks ∙ ap (λ (l : List SurfacePlan). map surface_at_start (map plain_surface l)) c.as_slice.ensures) i;
       actors = (c.in_ok-workers.ensures.now ∙ ap (λ (l : List ActorPlan). map begun (map plain_actor l)) c.as_slice-actors.ensures) i;
     }
