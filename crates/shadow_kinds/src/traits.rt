@@ -127,7 +127,6 @@ pub fn axes_of(props: &NodeProps) -> (Axis, Axis)
 }
 
 /// Whether each row is the same in both.
-#[tactic(auto, using(crate::proofs::SameProps::props_answer))]
 pub fn have_same_rows(a: &NodeProps, b: &NodeProps) -> bool
     ensures { result ≡ is_same_props a.now b.now }
 {
