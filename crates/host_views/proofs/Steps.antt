@@ -1,5 +1,5 @@
 -- What each mutation does to views with their links: the parents still fit, and what is shown is the registry after it.
-use Rattle.std.proofs.Common.{◌≡◌, ℕ, List, [], length, ◌≤◌, true, false, cond, Option, None, Some, is_some, IsSomeAnd, Result, Ok, Err, OnOk, OnErr, refl, ap, sym, ◌∙◌, subst}
+use Rattle.std.proofs.Common.{◌≡◌, ℕ, List, [], length, ◌≤◌, true, false, cond, Option, None, Some, is_some, IsSomeAnd, refl, ap, sym, ◌∙◌, subst}
 use Rattle.std.specs.Prelude.{nat_eq, slice_get}
 use Rattle.std.specs.List as list
 use Rattle.std.specs.Option.{option_map}
@@ -12,11 +12,6 @@ use Rattle.host_views.specs.Links.{PlainLinkedView, PlainLinks, KeepsParents, li
 use Rattle.host_views.proofs.AtOneTag.{children_changed}
 use Rattle.host_views.proofs.Shown.{get_shown, shown_children, shown_insert, shown_remove, shown_change, shown_alike}
 use Rattle.host_views.proofs.Parents.{children_by, kept_children, kept_create, kept_delete, kept_insert, kept_remove, none_from_no_child_of, parent_changed}
-
--- one of both outcomes came
-pub either_way : {T E : Type 0} {A B C : Type 0} (r : Result T E) → OnOk r A → OnErr r B → (A → C) → (B → C) → C
-either_way (Ok x) a b f g = f a
-either_way (Err e) a b f g = g b
 
 -- a view is shown exactly where there is one
 some_shown : (o : Option PlainLinkedView) → is_some (option_map shown_of o) ≡ is_some o

@@ -6,6 +6,7 @@ ghost use Rattle.host_views.specs.Same.{is_same_view};
 
 mod linked;
 mod links;
+mod mutations;
 mod registry;
 #[cfg(test)]
 mod tests;

@@ -5,6 +5,7 @@ ghost use Rattle.std.specs.List as list;
 ghost use Rattle.host_views.specs.Links.{unlinked};
 
 use crate::{HostView, ViewRef};
+use page_map::Share;
 use std::alloc::{AllocError, Global};
 use std::marker::Model;
 use std::sync::Arc;
@@ -19,16 +20,18 @@ pub struct LinkedView {
 
 impl Model for LinkedView {
     ghost use Rattle.host_views.specs.Links.{PlainLinkedView};
+    ghost use Rattle.host_views.specs.Code.{coded_linked};
 
     ghost Value = { PlainLinkedView };
+
+    ghost coded = { coded_linked };
 
     ghost view = { λ linked. record { view = linked.view.value; parent = linked.parent; children = linked.children.items } };
 }
 
-impl Clone for LinkedView {
-    ghost is_clone = { λ linked copy. copy ≡ linked };
-
-    fn clone(&self) -> Result<LinkedView, AllocError> {
+/// A share has the same view, and children in memory of its own.
+impl Share for LinkedView {
+    fn share(&self) -> Result<LinkedView, AllocError> {
         Ok(LinkedView {
             view: Arc::try_clone(&self.view)?,
             parent: self.parent,

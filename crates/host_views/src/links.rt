@@ -8,30 +8,31 @@ ghost use Rattle.host_views.specs.Links.{linked_children, unlinked, with_linked_
 
 use crate::ViewRef;
 use crate::linked::LinkedView;
+use page_map::{PageMap, Share};
 use std::alloc::{AllocError, Global};
-use std::collections::BTreeMap;
 use std::marker::Model;
 use std::sync::Arc;
 
 /// The tags of the root's children, and views with their links by their tags.
 ///
-/// Nothing is said here of whether parents and children fit.
+/// Nothing is said here of whether parents and children fit. A change is made in place where the
+/// page of its view has no other owner; else that page is copied. Where there is no memory, nothing
+/// is changed.
 #[derive(Drop)]
 pub struct Links {
     root: Vec<u32>,
-    views: BTreeMap<u32, LinkedView>,
+    views: PageMap<LinkedView>,
 }
 
 impl Model for Links {
     ghost use Rattle.host_views.specs.Links.{PlainLinks};
     ghost use Rattle.host_views.specs.Code.{coded_links};
-    ghost use Rattle.std.specs.FinMap as table;
 
     ghost Value = { PlainLinks };
 
     ghost coded = { coded_links };
 
-    ghost view = { λ links. record { root = links.root.items; views = table.from_entries links.views.entries } };
+    ghost view = { λ links. record { root = links.root.items; views = links.views } };
 }
 
 impl Links {
@@ -41,8 +42,13 @@ impl Links {
     {
         Links {
             root: Vec::new(alloc),
-            views: BTreeMap::new(alloc),
+            views: PageMap::empty(),
         }
+    }
+
+    /// Where the tags of the root's children are kept.
+    pub fn allocator(&self) -> Global {
+        *self.root.allocator()
     }
 
     /// How many views there are.
@@ -56,7 +62,7 @@ impl Links {
     pub fn get(&self, tag: u32) -> Option<&LinkedView>
         ensures { option_copied result ≡ table.get self.now.views tag }
     {
-        self.views.get(&tag)
+        self.views.get(tag)
     }
 
     /// The children of that tag; 0 is the root.
@@ -72,46 +78,72 @@ impl Links {
         }
     }
 
-    /// Adds a view without links. Where there is no memory, nothing is changed.
-    pub fn add(&mut self, tag: u32, view: &ViewRef) -> Result<(), AllocError>
+    /// Adds a view without links.
+    pub fn add(&mut self, alloc: Global, tag: u32, view: &ViewRef) -> Result<(), AllocError>
         ensures ok { OnOk result (self.new ≡ record { root = self.old.root; views = table.insert self.old.views tag (unlinked view.now.value) }) }
         ensures err { OnErr result (self.new ≡ self.old) }
     {
         let view = Arc::try_clone(view)?;
-        let linked = LinkedView::new(*self.root.allocator(), view);
-        self.views.insert(tag, linked)?;
-        Ok(())
+        let linked = LinkedView::new(alloc, view);
+        self.views.insert(alloc, tag, linked)
     }
 
     /// Takes a view away; the links of others stay.
-    pub fn remove(&mut self, tag: u32)
-        ensures { self.new ≡ record { root = self.old.root; views = table.remove self.old.views tag } }
+    pub fn remove(&mut self, alloc: Global, tag: u32) -> Result<(), AllocError>
+        ensures ok { OnOk result (self.new ≡ record { root = self.old.root; views = table.remove self.old.views tag }) }
+        ensures err { OnErr result (self.new ≡ self.old) }
     {
-        self.views.remove(&tag);
+        self.views.remove(alloc, tag)?;
+        Ok(())
     }
 
     /// Shows another view at that tag, with the same links. Where the tag is not there, nothing is changed.
-    pub fn set_view(&mut self, tag: u32, view: ViewRef)
-        ensures { self.new ≡ with_view tag view.value self.old }
+    pub fn set_view(&mut self, alloc: Global, tag: u32, view: ViewRef) -> Result<(), AllocError>
+        ensures ok { OnOk result (self.new ≡ with_view tag view.value self.old) }
+        ensures err { OnErr result (self.new ≡ self.old) }
     {
-        let Some(linked) = self.views.get_mut(&tag) else {
-            return;
+        if let Some(linked) = self.views.get_mut(tag) {
+            linked.set_view(view);
+            return Ok(());
+        }
+        let Some(linked) = self.views.get(tag) else {
+            return Ok(());
         };
+        let mut linked = linked.share()?;
         linked.set_view(view);
+        self.views.insert(alloc, tag, linked)
     }
 
     /// Gives the view of that tag another parent. Where the tag is not there, nothing is changed.
-    pub fn set_parent(&mut self, tag: u32, parent: Option<u32>)
-        ensures { self.new ≡ with_parent tag parent self.old }
+    pub fn set_parent(
+        &mut self,
+        alloc: Global,
+        tag: u32,
+        parent: Option<u32>,
+    ) -> Result<(), AllocError>
+        ensures ok { OnOk result (self.new ≡ with_parent tag parent self.old) }
+        ensures err { OnErr result (self.new ≡ self.old) }
     {
-        let Some(linked) = self.views.get_mut(&tag) else {
-            return;
+        if let Some(linked) = self.views.get_mut(tag) {
+            linked.set_parent(parent);
+            return Ok(());
+        }
+        let Some(linked) = self.views.get(tag) else {
+            return Ok(());
         };
+        let mut linked = linked.share()?;
         linked.set_parent(parent);
+        self.views.insert(alloc, tag, linked)
     }
 
-    /// Adds a child at that index; parent 0 is the root. Where there is no memory, nothing is changed.
-    pub fn insert_child(&mut self, parent: u32, index: usize, tag: u32) -> Result<(), AllocError>
+    /// Adds a child at that index; parent 0 is the root.
+    pub fn insert_child(
+        &mut self,
+        alloc: Global,
+        parent: u32,
+        index: usize,
+        tag: u32,
+    ) -> Result<(), AllocError>
         requires { IsSomeAnd (linked_children self.old parent) (λ children. index ≤ length children) }
         ensures ok { OnOk result (self.new ≡ with_linked_children parent (λ children. list.insert children index tag) self.old) }
         ensures err { OnErr result (self.new ≡ self.old) }
@@ -120,34 +152,51 @@ impl Links {
             self.root.insert(index, tag)?;
             return Ok(());
         }
-        let Some(linked) = self.views.get_mut(&parent) else {
+        if let Some(linked) = self.views.get_mut(parent) {
+            return linked.insert_child(index, tag);
+        }
+        let Some(linked) = self.views.get(parent) else {
             return Ok(());
         };
-        linked.insert_child(index, tag)
+        let mut linked = linked.share()?;
+        linked.insert_child(index, tag)?;
+        self.views.insert(alloc, parent, linked)
     }
 
     /// Takes away the child at that index; parent 0 is the root.
-    pub fn remove_child(&mut self, parent: u32, index: usize)
+    pub fn remove_child(
+        &mut self,
+        alloc: Global,
+        parent: u32,
+        index: usize,
+    ) -> Result<(), AllocError>
         requires { IsSomeAnd (linked_children self.old parent) (λ children. index < length children) }
-        ensures { self.new ≡ with_linked_children parent (λ children. list.remove children index) self.old }
+        ensures ok { OnOk result (self.new ≡ with_linked_children parent (λ children. list.remove children index) self.old) }
+        ensures err { OnErr result (self.new ≡ self.old) }
     {
         if parent == 0 {
             self.root.remove(index);
-            return;
+            return Ok(());
         }
-        let Some(linked) = self.views.get_mut(&parent) else {
-            return;
+        if let Some(linked) = self.views.get_mut(parent) {
+            linked.remove_child(index);
+            return Ok(());
+        }
+        let Some(linked) = self.views.get(parent) else {
+            return Ok(());
         };
+        let mut linked = linked.share()?;
         linked.remove_child(index);
+        self.views.insert(alloc, parent, linked)
     }
 
-    /// The same links, in memory of their own; the views are shared.
+    /// The same links: the views' pages are shared, and the root's children are copied.
     pub fn copy(&self) -> Result<Links, AllocError>
         ensures { IfOk result (λ copy. copy ≡ self.now) }
     {
         Ok(Links {
             root: self.root.clone()?,
-            views: self.views.clone()?,
+            views: self.views.share()?,
         })
     }
 }

@@ -1,16 +1,17 @@
 //! The registry of a platform's views.
 
-ghost use Rattle.std.specs.Prelude.{◌≡◌, ◌≢◌, ◌≤◌, ◌↔◌, [], length, Some, IfOk, OnOk, OnErr, IsNone, IsSome, IsSomeAnd, IsTrue, slice_get};
+ghost use Rattle.std.specs.Prelude.{◌≡◌, ◌≢◌, ◌≤◌, ◌↔◌, [], length, map, Some, IfOk, OnOk, OnErr, IsNone, IsSome, IsSomeAnd, IsTrue, slice_get};
 ghost use Rattle.std.specs.Option.{option_copied, option_map};
 ghost use Rattle.std.specs.FinMap as table;
-ghost use Rattle.host_views.specs.Plain.{create, delete, insert, plain_mutation, remove, update};
-ghost use Rattle.host_views.specs.Registry.{Fits, IsNoChild, after_mutation, children_in};
+ghost use Rattle.host_views.specs.Plain.{delete, insert, plain_mutation, remove, update};
+ghost use Rattle.host_views.specs.Registry.{Fits, IsNoChild, MayApply, after_mutation, children_in, mutated};
 
 use crate::links::Links;
-use crate::{HostView, Mutation, ViewRef};
+use crate::mutations::apply_each;
+use crate::{HostView, Mutation};
 use std::alloc::{AllocError, Global};
 use std::marker::Model;
-use std::sync::Arc;
+use std::slice;
 
 /// What a platform shows: views by their tags, each with the tags of its children in their order.
 ///
@@ -97,22 +98,29 @@ impl Registry {
         ensures ok { OnOk result (self.new ≡ after_mutation (plain_mutation mutation.now) self.old) }
         ensures err { OnErr result (self.new ≡ self.old) }
     {
-        match mutation {
-            Mutation::Create { tag, view } => self.create(*tag, view),
-            Mutation::Delete { tag } => {
-                self.delete(*tag);
-                Ok(())
+        let alloc = self.links.allocator();
+        self.apply_all(alloc, slice::from_ref(mutation))
+    }
+
+    /// Applies mutations in their turn, of which each fits then.
+    ///
+    /// A page of views that has another owner is copied once. Where there is no memory, nothing is changed.
+    pub fn apply_all(&mut self, alloc: Global, mutations: &[Mutation]) -> Result<(), AllocError>
+        requires { MayApply (map plain_mutation mutations.now) self.old }
+        ensures ok { OnOk result (self.new ≡ mutated (map plain_mutation mutations.now) self.old) }
+        ensures err { OnErr result (self.new ≡ self.old) }
+    {
+        let before = self.links.copy()?;
+        match apply_each(&mut self.links, alloc, mutations) {
+            Ok(()) => Ok(()),
+            Err(error) => {
+                self.links = before;
+                Err(error)
             }
-            Mutation::Insert { parent, tag, index } => self.insert(*parent, *tag, *index),
-            Mutation::Remove { parent, tag, index } => {
-                self.remove(*parent, *tag, *index);
-                Ok(())
-            }
-            Mutation::Update { tag, view } => self.update(*tag, view),
         }
     }
 
-    /// An equal registry in memory of its own; the views are shared.
+    /// An equal registry, which changes by itself; the pages of views are shared.
     pub fn copy(&self, _alloc: Global) -> Result<Registry, AllocError>
         ensures { IfOk result (λ copy. copy ≡ self.now) }
     {
@@ -186,56 +194,5 @@ impl Registry {
             Some(shown) => shown.kind == view.kind,
             None => false,
         }
-    }
-}
-
-/// What each mutation does.
-impl Registry {
-    /// Adds a view without a parent and without children.
-    fn create(&mut self, tag: u32, view: &ViewRef) -> Result<(), AllocError>
-        requires { Fits self.old (create tag view.now.value) }
-        ensures ok { OnOk result (self.new ≡ after_mutation (create tag view.now.value) self.old) }
-        ensures err { OnErr result (self.new ≡ self.old) }
-    {
-        self.links.add(tag, view)
-    }
-
-    /// Takes a view away.
-    fn delete(&mut self, tag: u32)
-        requires { Fits self.old (delete tag) }
-        ensures { self.new ≡ after_mutation (delete tag) self.old }
-    {
-        self.links.remove(tag);
-    }
-
-    /// Makes a view the child at that index.
-    fn insert(&mut self, parent: u32, tag: u32, index: u32) -> Result<(), AllocError>
-        requires { Fits self.old (insert parent tag index) }
-        ensures ok { OnOk result (self.new ≡ after_mutation (insert parent tag index) self.old) }
-        ensures err { OnErr result (self.new ≡ self.old) }
-    {
-        self.links.insert_child(parent, index as usize, tag)?;
-        self.links.set_parent(tag, Some(parent));
-        Ok(())
-    }
-
-    /// Takes the child at that index away from its parent.
-    fn remove(&mut self, parent: u32, tag: u32, index: u32)
-        requires { Fits self.old (remove parent tag index) }
-        ensures { self.new ≡ after_mutation (remove parent tag index) self.old }
-    {
-        self.links.remove_child(parent, index as usize);
-        self.links.set_parent(tag, None);
-    }
-
-    /// Shows another view at that tag.
-    fn update(&mut self, tag: u32, view: &ViewRef) -> Result<(), AllocError>
-        requires { Fits self.old (update tag view.now.value) }
-        ensures ok { OnOk result (self.new ≡ after_mutation (update tag view.now.value) self.old) }
-        ensures err { OnErr result (self.new ≡ self.old) }
-    {
-        let view = Arc::try_clone(view)?;
-        self.links.set_view(tag, view);
-        Ok(())
     }
 }

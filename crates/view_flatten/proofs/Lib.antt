@@ -25,3 +25,4 @@ pub mod Found
 pub mod Whole
 pub mod FiveViews
 pub mod TagSearch
+pub mod Holding

@@ -1,8 +1,9 @@
 -- Sites in their order below each host parent, and the host tree that they make.
-use Rattle.std.specs.Prelude.{◌≡◌, ℕ, zero, suc, ℤ, ◌+◌, List, [], ◌∷◌, nat_eq, int_lt, if◌then◌else◌, filter}
-use Rattle.std.specs.List.{flat_map}
+use Rattle.std.specs.Prelude.{◌≡◌, ℕ, zero, suc, ℤ, ◌+◌, false, List, [], ◌∷◌, nat_eq, int_lt, if◌then◌else◌, filter}
+use Rattle.std.specs.List.{All, flat_map}
 use Rattle.host_views.specs.Plain.{PlainPlacedView, PlainHostTree}
-use Rattle.view_flatten.specs.Sites.{PlainSite}
+use Rattle.view_flatten.specs.declared.sites.Site.{Site}
+use Rattle.view_flatten.specs.Sites.{PlainSite, plain_site}
 
 -- the sites below a host parent
 abbrev pub sites_at : List PlainSite → ℕ → List PlainSite
@@ -21,6 +22,10 @@ ordered_by number (x ∷ others) = put_by number x (ordered_by number others)
 -- below each host parent these are the same sites by z
 abbrev pub AreByZ : List PlainSite → List PlainSite → Type 0
 AreByZ old new = (parent : ℕ) → sites_at new parent ≡ ordered_by (λ site. site.z) (sites_at old parent)
+
+-- of all sites none lies in one of these that is not marked as one that may hold others
+abbrev pub HoldOnlyWhereMarked : List PlainSite → List Site → Type 0
+HoldOnlyWhereMarked all sites = All (λ site. site.may_hold ≡ false → sites_at all (plain_site site).tag ≡ []) sites
 
 -- a site placed below a host parent
 abbrev pub placed_site : (parent index : ℕ) → PlainSite → PlainPlacedView

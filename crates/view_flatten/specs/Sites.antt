@@ -1,5 +1,5 @@
 -- What the walk over a forest collects: a site for each node that has a view, with the view's host parent and its order there.
-use Rattle.std.specs.Prelude.{◌≡◌, ℕ, ℤ, pos, ◌*◌, ◌≤◌, ◌+ℤ◌, ◌≤ℤ◌, List, [], ◌∷◌, ◌++◌, Bool, true, false, Option, Some, None, if◌then◌else◌, map}
+use Rattle.std.specs.Prelude.{◌≡◌, ℕ, ℤ, pos, ◌*◌, ◌≤◌, ◌+ℤ◌, ◌≤ℤ◌, List, [], ◌∷◌, ◌++◌, Bool, true, false, not, ◌&&◌, Option, Some, None, if◌then◌else◌, map}
 use Rattle.std.specs.List.{All, AllByRecursion}
 use Rattle.shadow_frame.specs.declared.Point.{Point}
 use Rattle.shadow_kinds.specs.Axes.{z_order_of}
@@ -101,9 +101,18 @@ abbrev pub shown_site : Option Host → SettledFields → List PlainSite
 shown_site None settled = []
 shown_site (Some host) settled = own_site host settled
 
--- exactly the sites whose nodes pass a test are marked as skipped
+-- a node that forms a context
+abbrev pub is_context : SettledFields → Bool
+is_context settled = forms_context_of settled.fields.kind settled.fields.props
+
+-- a site is marked as skipped exactly where its node passes a test, and as one that may hold others where its node forms a context and does not pass
+pub record IsSiteMarked (test : SettledFields → Bool) (site : Site) : Type 0 where
+  pub skipped : site.is_skipped ≡ test site.spot.tree.fields
+  pub holds : site.may_hold ≡ (is_context site.spot.tree.fields && not (test site.spot.tree.fields))
+
+-- each of the sites is marked so
 abbrev pub AreSitesMarked : (SettledFields → Bool) → List Site → Type 0
-AreSitesMarked test sites = All (λ site. site.is_skipped ≡ test site.spot.tree.fields) sites
+AreSitesMarked test sites = All (IsSiteMarked test) sites
 
 -- what a walk of a forest adds to what was found before: the sites and the tags of the nodes that it reaches
 pub record HasFound (test : SettledFields → Bool) (host : Option Host) (forest : PlainForest SettledFields) (old new : Found) : Type 0 where

@@ -1,11 +1,11 @@
 //! The sites in their order, and the host tree that they make.
 
-ghost use Rattle.std.specs.Prelude.{◌≡◌, ◌<◌, ◌≤◌, ◌++◌, [], ◌∷◌, Bool, IsTrue, length, IfOk, OnOk};
+ghost use Rattle.std.specs.Prelude.{◌≡◌, ◌<◌, ◌≤◌, ◌++◌, [], ◌∷◌, List, Bool, IsTrue, length, IfOk, OnOk};
 ghost use Rattle.std.specs.List.Sorted.{IsNonDecreasingBy, IsPermutation};
 ghost use Rattle.shadow_node.specs.Fields.{SettledFields};
 ghost use Rattle.view_flatten.specs.Placed.{AreMarked, plain_place, plain_places};
-ghost use Rattle.view_flatten.specs.Placing.{AreByZ, placed_site, sites_at, tree_below};
-ghost use Rattle.view_flatten.specs.Sites.{AreSitesMarked, plain_site, plain_sites};
+ghost use Rattle.view_flatten.specs.Placing.{AreByZ, HoldOnlyWhereMarked, placed_site, sites_at, tree_below};
+ghost use Rattle.view_flatten.specs.Sites.{PlainSite, AreSitesMarked, plain_site, plain_sites};
 
 use crate::sites::Site;
 use crate::walks::Spot;
@@ -95,6 +95,7 @@ fn children_of<'s, 'a>(sites: &'s [Site<'a>], parent: u32) -> &'s [Site<'a>]
     requires { IsNonDecreasingBy (λ site. site.parent) sites.now }
     ensures children { plain_sites result.now ≡ sites_at (plain_sites sites.now) parent }
     ensures marked { (test : SettledFields → Bool) → AreSitesMarked test sites.now → AreSitesMarked test result.now }
+    ensures closed { (all : List PlainSite) → HoldOnlyWhereMarked all sites.now → HoldOnlyWhereMarked all result.now }
     ensures len { length result.now ≤ length sites.now }
 {
     let start = sites.partition_point(|site| site.parent < parent);
@@ -124,6 +125,8 @@ fn add_place<'a>(
 }
 
 /// Adds the places below a host parent, down to so many levels: each child, and then those below it.
+///
+/// Below a site in which nothing may lie the sites are not searched.
 pub(crate) fn add_below<'a>(
     places: &mut Vec<Placed<'a>>,
     sites: &[Site<'a>],
@@ -131,6 +134,7 @@ pub(crate) fn add_below<'a>(
     levels: usize,
 ) -> Result<(), AllocError>
     requires order { IsNonDecreasingBy (λ site. site.parent) sites.now }
+    requires closed { HoldOnlyWhereMarked (plain_sites sites.now) sites.now }
     requires count { length sites.now ≤ 2000 }
     ensures places { OnOk result (plain_places places.new.items ≡ plain_places places.old.items ++ tree_below levels (plain_sites sites.now) parent) }
     ensures marked { OnOk result ((test : SettledFields → Bool) → AreSitesMarked test sites.now → AreMarked test places.old.items → AreMarked test places.new.items) }
@@ -140,6 +144,9 @@ pub(crate) fn add_below<'a>(
     }
     for (index, site) in children_of(sites, parent).iter().enumerate() {
         add_place(places, site, parent, index as u32)?;
+        if !site.may_hold {
+            continue;
+        }
         add_below(places, sites, site.spot.tag(), levels - 1)?;
     }
     Ok(())

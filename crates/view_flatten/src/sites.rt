@@ -1,6 +1,8 @@
 //! The sites that a walk finds: one for each node that has a view, in preorder.
+//!
+//! Whether a node forms a context is read of its props once, and handed on as `is_host`.
 
-ghost use Rattle.std.specs.Prelude.{◌≡◌, ◌+◌, pos, negsuc, ◌+ℤ◌, ◌≤ℤ◌, [], ◌∷◌, Bool, OnOk};
+ghost use Rattle.std.specs.Prelude.{◌≡◌, ◌+◌, pos, negsuc, ◌+ℤ◌, ◌≤ℤ◌, [], ◌∷◌, Bool, not, ◌&&◌, OnOk};
 ghost use Rattle.std.specs.Option.{option_map};
 ghost use Rattle.shadow_node.specs.Entered.{count_outside};
 ghost use Rattle.shadow_node.specs.Fields.{SettledFields};
@@ -8,7 +10,7 @@ ghost use Rattle.shadow_node.specs.Forest.{depth_of, forest_of};
 ghost use Rattle.tree_settle.specs.Limits.{AreFramesInBounds, IsFrameInBounds};
 ghost use Rattle.view_flatten.specs.HostTree.{moved};
 ghost use Rattle.view_flatten.specs.Placed.{IsSameWalk};
-ghost use Rattle.view_flatten.specs.Sites.{AreSitesMarked, HasFound, HasRoomBelow, HasRoomFor, IsAdded, host_inside, plain_site, root, shown_host, shown_site, site_in};
+ghost use Rattle.view_flatten.specs.Sites.{AreSitesMarked, HasFound, HasRoomBelow, HasRoomFor, IsAdded, host_inside, is_context, plain_site, root, shown_host, shown_site, site_in};
 ghost use Rattle.view_flatten.specs.Skips.{DoTagsRise, skips};
 ghost use Rattle.view_flatten.specs.Walks.{entered_more};
 
@@ -28,6 +30,8 @@ pub(crate) struct Site<'a> {
     pub(crate) origin: Point,
     /// Whether the walk did not enter the node.
     pub(crate) is_skipped: bool,
+    /// Whether views may lie in it: its node forms a context, and the walk entered it.
+    pub(crate) may_hold: bool,
 }
 
 /// What a walk has found so far.
@@ -57,12 +61,13 @@ impl Host {
     }
 
     /// The host of what lies below a node.
-    fn inside(self, spot: &Spot) -> Host
+    fn inside(self, spot: &Spot, is_host: bool) -> Host
         requires place { HasRoomFor 1 self.begin }
         requires frame { IsFrameInBounds spot.now.tree.fields.frame }
+        requires context { is_host ≡ is_context spot.now.tree.fields }
         ensures { result ≡ host_inside self spot.now.tree.fields }
     {
-        if forms_context(spot.kind(), spot.props()) {
+        if is_host {
             Host {
                 parent: spot.tag(),
                 begin: Point { x: 0, y: 0 },
@@ -107,24 +112,26 @@ fn shown_host(host: Option<Host>, spot: &Spot) -> Option<Host>
 }
 
 /// The host of what lies below a node, where it is shown.
-fn host_below(host: Option<Host>, spot: &Spot) -> Option<Host>
+fn host_below(host: Option<Host>, spot: &Spot, is_host: bool) -> Option<Host>
     requires place { HasRoomBelow 1 host }
     requires frame { IsFrameInBounds spot.now.tree.fields.frame }
+    requires context { is_host ≡ is_context spot.now.tree.fields }
     ensures { result ≡ option_map (λ host. host_inside host spot.now.tree.fields) host }
 {
     match host {
-        Some(host) => Some(host.inside(spot)),
+        Some(host) => Some(host.inside(spot, is_host)),
         None => None,
     }
 }
 
 /// The site of a node with that host.
-fn site_of<'a>(spot: &Spot<'a>, host: Host, is_skipped: bool) -> Site<'a>
+fn site_of<'a>(spot: &Spot<'a>, host: Host, is_host: bool, is_skipped: bool) -> Site<'a>
     requires place { HasRoomFor 1 host.begin }
     requires frame { IsFrameInBounds spot.now.tree.fields.frame }
     ensures site { plain_site result ≡ site_in host spot.now.tree.fields }
     ensures spot { result.spot ≡ spot.now }
     ensures mark { result.is_skipped ≡ is_skipped }
+    ensures holds { result.may_hold ≡ (is_host && not is_skipped) }
 {
     Site {
         parent: host.parent,
@@ -132,6 +139,7 @@ fn site_of<'a>(spot: &Spot<'a>, host: Host, is_skipped: bool) -> Site<'a>
         origin: begin_of(host.begin, spot.frame()),
         spot: spot.again(),
         is_skipped,
+        may_hold: is_host && !is_skipped,
     }
 }
 
@@ -140,16 +148,18 @@ fn add_site<'a>(
     sites: &mut Vec<Site<'a>>,
     spot: &Spot<'a>,
     host: Option<Host>,
+    is_host: bool,
     is_skipped: bool,
 ) -> Result<(), AllocError>
     requires place { HasRoomBelow 1 host }
     requires frame { IsFrameInBounds spot.now.tree.fields.frame }
+    requires context { is_host ≡ is_context spot.now.tree.fields }
     ensures sites { OnOk result (IsAdded sites.old.items (shown_site host spot.now.tree.fields) sites.new.items) }
     ensures marked { OnOk result ((test : SettledFields → Bool) → is_skipped ≡ test spot.now.tree.fields → AreSitesMarked test sites.old.items → AreSitesMarked test sites.new.items) }
 {
     if let Some(host) = host {
-        if forms_view(spot.kind(), spot.props()) {
-            sites.push(site_of(spot, host, is_skipped))?;
+        if is_host || forms_view(spot.kind(), spot.props()) {
+            sites.push(site_of(spot, host, is_host, is_skipped))?;
         }
     }
     Ok(())
@@ -173,15 +183,16 @@ fn add_tree<'a>(
     ensures same { IsSameWalk walk.old walk.new }
 {
     let host = shown_host(host, spot);
-    if skip.skips(spot) {
+    let is_host = forms_context(spot.kind(), spot.props());
+    if skip.skips(spot, is_host) {
         found.skipped.push(spot.tag())?;
-        return add_site(&mut found.sites, spot, host, true);
+        return add_site(&mut found.sites, spot, host, is_host, true);
     }
     // so the tag is that of a node
     let _tag = spot.tag();
     let below = walk.enter(spot);
-    let host_below = host_below(host, spot);
-    add_site(&mut found.sites, spot, host, false)?;
+    let host_below = host_below(host, spot, is_host);
+    add_site(&mut found.sites, spot, host, is_host, false)?;
     add_forest(walk, found, below, host_below, skip)
 }
 

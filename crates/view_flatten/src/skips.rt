@@ -1,10 +1,10 @@
 //! Which nodes a walk does not enter.
 
 ghost use Rattle.std.specs.Prelude.{◌≡◌};
+ghost use Rattle.view_flatten.specs.Sites.{is_context};
 ghost use Rattle.view_flatten.specs.Skips.{DoTagsRise, skips};
 
 use crate::walks::Spot;
-use shadow_kinds::forms_context;
 
 /// Which nodes a walk does not enter.
 #[derive(Clone, Copy)]
@@ -19,13 +19,14 @@ pub enum Skip<'a> {
 
 impl<'a> Skip<'a> {
     /// Whether a node is not entered. It takes time in log n for n tags.
-    pub(crate) fn skips(&self, spot: &Spot) -> bool
-        requires { DoTagsRise self.now }
+    pub(crate) fn skips(&self, spot: &Spot, is_host: bool) -> bool
+        requires rise { DoTagsRise self.now }
+        requires context { is_host ≡ is_context spot.now.tree.fields }
         ensures { result ≡ skips self.now spot.now.stamps spot.now.tree.fields }
     {
         match self {
             Skip::Nothing => false,
-            Skip::Since(base) => forms_context(spot.kind(), spot.props()) && spot.stamp() <= *base,
+            Skip::Since(base) => is_host && spot.stamp() <= *base,
             Skip::Tags(tags) => tags.binary_search(&spot.tag()).is_ok(),
         }
     }

@@ -9,5 +9,5 @@ pub returns-in-Tags : goal.returns-in-Tags
 returns-in-Tags c =
     let tags = c.in-Tags.tags.now in
     let spot = c.args.spot.now in
-    c.is_ok.ensures.value ∙ found_where tags c.tag.result c.binary_search.result c.binary_search.ensures.position (subst DoTagsRise c.in-Tags.is c.requires)
+    c.is_ok.ensures.value ∙ found_where tags c.tag.result c.binary_search.result c.binary_search.ensures.position (subst DoTagsRise c.in-Tags.is c.requires.rise)
     ∙ ap (λ tag. list_any (nat_eq tag) tags) c.tag.ensures.tag ∙ ap (λ skip. skips skip spot.stamps spot.tree.fields) (sym c.in-Tags.is)
