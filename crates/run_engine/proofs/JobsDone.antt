@@ -25,7 +25,7 @@ use Rattle.run_actor.specs.Runs.{HasRun, HasRunOn, IsBegun, MayBegin}
 use Rattle.run_engine.specs.declared.jobs.Job.{Job}
 use Rattle.run_engine.specs.Opening.{AreOpenings, IsOpening}
 use Rattle.run_engine.specs.Run.{commits_left}
-use Rattle.run_engine.specs.Workers.{IsDone, HaveWorked, HaveWorkedOn, MayWork}
+use Rattle.run_engine.specs.Workers.{HasFinished, HaveWorked, HaveWorkedOn, MayWork}
 use Rattle.run_engine.specs.Jobs.{AreDone, AreHandedBack, AreJobsAtStart, AreOfSpines, AreRun, HasGathered, HasRunJob, IsDone, IsJobAtStart, IsMountFor, IsUnmounted, MayGather, MayGiveAll, MayRun, MayRunEach, after_own_passes, own_pass}
 use Rattle.run_engine.proofs.JobsBegin.{first_base, job_begins, job_leaves, same_spine}
 use Rattle.run_engine.proofs.Gathered.{keys_length}
@@ -284,7 +284,7 @@ module _ (script : PlainScript) (sound : IsSoundScript script) (spines : List (�
           mount_count = gathered.mount_count;
           ended = λ number plan actor at to.
               let job = there_too actors after number actor to (sym (ap length are ∙ length-map after (λ job. job.actor))) in
-              subst (IsDone number plan) (sym (made_at (λ job. job.actor) after number job.0 actor job.1 (sym (ap (λ l. slice_get l number) are) ∙ to)))
+              subst (HasFinished number plan) (sym (made_at (λ job. job.actor) after number job.0 actor job.1 (sym (ap (λ l. slice_get l number) are) ∙ to)))
               (are_done.each number plan job.0 at job.1).ended;
           surfaces = λ place surface was is mounted at w i m.
               let spine = there_too script.surfaces spines place surface at spine_count in

@@ -38,7 +38,7 @@ use Rattle.commit_spine.specs.SpinePasses.{PassValue}
 use Rattle.run_actor.specs.Actors.{RunningActor, actor_now}
 use Rattle.run_actor.specs.Runs.{mounts_made_on}
 use Rattle.run_engine.specs.Ends.{mounts_of, part_over}
-use Rattle.run_engine.specs.Workers.{records_by, records_from, passages_of, IsDone, HaveWorkedOn, HaveWorked}
+use Rattle.run_engine.specs.Workers.{records_by, records_from, passages_of, HasFinished, HaveWorkedOn, HaveWorked}
 use Rattle.run_engine.specs.Spines.{AreSpinesAtStart, IsPartAtEnd, IsJournalOf, kept_at_start}
 use Rattle.run_engine.proofs.Openings.{keys_at}
 use Rattle.run_engine.proofs.Gathered.{keys_length, mounted_along, passages_same, mapped_at}
@@ -234,7 +234,7 @@ module _ (script : PlainScript) (sound : IsSoundScript script) (spines : List (�
       (length-map actors part_of ∙ worked.actor_count)
       (λ number plan part at to.
       let actor = mapped_at part_of actors number part to in
-      let ended : IsDone number plan actor.0 = worked.ended number plan actor.0 at actor.1 in
+      let ended : HasFinished number plan actor.0 = worked.ended number plan actor.0 at actor.1 in
       subst (λ (part : PlainActorPart). (part.name ≡ plan.name) × AllZip Answers plan.steps part.steps) actor.2 (ended.name, ended.answers))
 
   form : HasFormOf script (plain_journal journal)

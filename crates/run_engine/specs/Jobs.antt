@@ -27,7 +27,7 @@ use Rattle.run_actor.specs.Actions.{begun_actor}
 use Rattle.run_actor.specs.Runs.{HasRun, HasRunOn, IsBegun, MayBegin, commits_on, mounts_made_on}
 use Rattle.run_engine.specs.declared.jobs.Job.{Job}
 use Rattle.run_engine.specs.Run.{commits_left}
-use Rattle.run_engine.specs.Workers.{IsDone, HasWorkedOn, records_by, records_from, passages_of}
+use Rattle.run_engine.specs.Workers.{HasFinished, HasWorkedOn, records_by, records_from, passages_of}
 
 -- the pass that an actor with these steps gets of a surface's pass: with one share, and a permit for each of its commits there
 abbrev pub own_pass : List PlainStep → ℕ × PassValue → PassValue
@@ -156,7 +156,7 @@ pub record HasLeft (surface : PlainSurface) (number : ℕ) (plan : PlainActor) (
 
 -- the job of an actor of that number is done
 pub record IsDone (surfaces : List PlainSurface) (number : ℕ) (plan : PlainActor) (job : Job) : Type 0 where
-  pub ended : IsDone number plan job.actor
+  pub ended : HasFinished number plan job.actor
   pub passes : length job.passes.items ≡ length surfaces
   pub mounts : length job.mounts.items ≡ length surfaces
   pub each : (place : ℕ) (surface : PlainSurface) (pass : PassValue) (mount : Option PlainCoordinator)

@@ -39,7 +39,7 @@ pub record MayWork (script : PlainScript) (spines : List (ℕ × Spine)) (passes
       → MayBeSplit script surface spine.1 pass.1
 
 -- an actor has come to its end: it is the one of that number, and each of its steps has its answer
-pub record IsDone (number : ℕ) (plan : PlainActor) (actor : RunningActor) : Type 0 where
+pub record HasFinished (number : ℕ) (plan : PlainActor) (actor : RunningActor) : Type 0 where
   pub number_is : actor.number ≡ number
   pub name : actor.name ≡ plan.name
   pub left : actor.left ≡ []
@@ -84,7 +84,7 @@ pub record HaveWorked (script : PlainScript) (old new : List (ℕ × PassValue))
   pub actor_count : length actors ≡ length script.actors
   pub mount_count : length mounts ≡ length script.surfaces
   pub ended : (number : ℕ) (plan : PlainActor) (actor : RunningActor) → slice_get script.actors number ≡ Some plan → slice_get actors number ≡ Some actor
-      → IsDone number plan actor
+      → HasFinished number plan actor
   pub surfaces : (place : ℕ) (surface : PlainSurface) (was is : ℕ × PassValue) (mounted : PlainCoordinator)
       → slice_get script.surfaces place ≡ Some surface → slice_get old place ≡ Some was → slice_get new place ≡ Some is → slice_get mounts place ≡ Some mounted
       → HaveWorkedOn script surface was.1 is.1 mounted actors
