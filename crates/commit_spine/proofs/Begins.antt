@@ -4,7 +4,10 @@ use Rattle.std.proofs.lemmas.List.{take-append-drop, take-append-le}
 use Rattle.std.proofs.lemmas.Bool.Decides.{nat_tests}
 use Rattle.std.proofs.Math.Seq.{take-length}
 use Rattle.tree_revision.specs.Records.{PlainRecord}
+use Rattle.shadow_frame.specs.declared.Size.{Size}
+use Rattle.tree_revision.specs.Lawful.{IsLawful}
 use Rattle.tree_revision.specs.Ports.{BeginsWith}
+use Rattle.tree_revision.proofs.Histories.{IsLawful-front}
 use Rattle.commit_spine.specs.StepKinds.{longer_of, shorter_of}
 
 -- a list is what it begins with, and the rest
@@ -91,3 +94,9 @@ length_by us vs false is = let le : length vs ≤ length us = grind (arith, nat_
 
 pub length_of_longer : (us vs : List PlainRecord) → length (longer_of us vs) ≡ max (length us) (length vs)
 length_of_longer us vs = length_by us vs (leb (length us) (length vs)) refl
+
+-- where a list is lawful, so is one that begins it
+pub lawful_begin : (first : Size) (longer shorter : List PlainRecord) → BeginsWith longer shorter → IsLawful first longer → IsLawful first shorter
+lawful_begin first longer shorter begins lawful =
+    let n : ℕ = length shorter in
+    subst (IsLawful first) begins.same (IsLawful-front first (take n longer) (drop n longer) (subst (IsLawful first) (sym (take-append-drop n longer)) lawful))

@@ -18,7 +18,7 @@ use Rattle.commit_spine.specs.Stores.{Slot, HasStoreOf}
 use Rattle.commit_spine.specs.StepKinds.{after_load, after_load_for_look, after_take_for_look, after_lost_look, after_take_for_offer, after_lost_offer, after_answered_look, after_look_in_vain, after_admitted_offer}
 use Rattle.commit_spine.specs.SpineRule.{SpineState, turn_bit, spine_word, HasTurn, StandOnce, SpineHolds}
 use Rattle.commit_spine.specs.StepTells.{Hand, load_tells, load_for_look_tells, take_for_look_tells, take_for_offer_tells, answered_look_tells, look_in_vain_tells, admitted_offer_tells, compare_tells}
-use Rattle.commit_spine.proofs.Begins.{begins_with_itself, more_begins, begins_through, begins_whole, begins_among}
+use Rattle.commit_spine.proofs.Begins.{begins_with_itself, more_begins, begins_through, begins_whole, begins_among, lawful_begin}
 use Rattle.commit_spine.proofs.OwnRecords.{one_if, added_stands, stand_later, stand_both, none_beyond, times_in_both}
 use Rattle.commit_spine.proofs.PassSums.{sum_after_set, one_is_within, sum_of_none}
 use Rattle.commit_spine.proofs.KeptRules.{counted, same_once, found_word, found_number, free_where_even, rule_after, rule_after_find, rule_after_take, rule_after_give, free_home, room_for_permits}
@@ -100,6 +100,7 @@ module _ (mark : SpineMark) where
         (
           refl,
           record {
+            lawful = subst (λ (m : SpineMark). IsLawful m.first me.0.seen) (sym same) (lawful_begin mark.first rule.history me.0.seen fits.seen_is_a_prefix rule.history_is_lawful);
             joined = begins_among rule.history me.0.seen me.0.joined fits.seen_is_a_prefix fits.joined_is_a_prefix;
             permits = subst (λ (m : SpineMark). me.0.permits ≤ m.room) (sym same) (omega (arith, permits));
             shares = subst (λ (m : SpineMark). me.0.shares ≤ m.seats) (sym same) (omega (arith, shares, rule.shares_sum_to_seats));

@@ -2,6 +2,7 @@
 use Rattle.std.specs.Prelude.{◌≡◌, ◌≢◌, ℕ, ◌+◌, ◌/◌, ◌≤◌, List, [], ◌∷◌, ◌++◌, length}
 use Rattle.atomic_table.specs.Table.{Me, Step, rest}
 use Rattle.tree_revision.specs.Records.{PlainRecord}
+use Rattle.tree_revision.specs.Lawful.{IsLawful}
 use Rattle.tree_revision.specs.Ports.{BeginsWith}
 use Rattle.commit_spine.specs.Passes.{KeptByPass, history_kept, times_own}
 use Rattle.commit_spine.specs.Stores.{Slot, HasStoreOf}
@@ -75,9 +76,10 @@ admitted_offer_tells step before found after =
     → HasStoreOf before.0.mark slot (history_kept before.0.turn ++ entry ∷ [])
     → after ≡ (after_admitted_offer before.0 (history_kept before.0.turn) entry, rest before.1)
 
--- what a load behind a join compares: where the shorter list is no longer it begins the other, and
--- a pass has no more permits and shares than there are
+-- what a load behind a join compares: what was seen is lawful, where the shorter list is no longer
+-- it begins the other, and a pass has no more permits and shares than there are
 pub record IsWithinMark (kept : KeptByPass) : Type 0 where
+  pub lawful : IsLawful kept.mark.first kept.seen
   pub joined : length kept.joined ≤ length kept.seen → BeginsWith kept.seen kept.joined
   pub permits : kept.permits ≤ kept.mark.room
   pub shares : kept.shares ≤ kept.mark.seats

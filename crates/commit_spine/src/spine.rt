@@ -3,6 +3,7 @@
 ghost use Rattle.std.specs.Prelude.{◌≡◌, ◌^◌, ◌<◌, ◌≤◌, ◌∷◌, ◌++◌, [], length, IfOk, Some};
 ghost use Rattle.tree_revision.specs.Records.{plain_record};
 ghost use Rattle.tree_revision.specs.Stands.{StandsFor};
+ghost use Rattle.tree_revision.specs.Lawful.{IsLawful};
 ghost use Rattle.tree_revision.specs.Ports.{BeginsWith};
 ghost use Rattle.commit_spine.specs.Passes.{no_turn, fresh_pass};
 ghost use Rattle.commit_spine.specs.StepKinds.{after_split, split_off, after_join};
@@ -193,6 +194,7 @@ impl Spine {
         ensures kept { keep.new.kept ≡ after_join keep.old.kept gone.kept }
         ensures seen { BeginsWith keep.new.kept.seen keep.old.kept.seen }
         ensures gone_seen { BeginsWith keep.new.kept.seen gone.kept.seen }
+        ensures lawful { IsLawful keep.new.kept.mark.first keep.new.kept.seen }
     {
         let SpinePass {
             seat,

@@ -155,7 +155,7 @@ module _ (id : ℕ) (old new : Told) (lasts : Lasts old new) (before : RunningAc
   pub hold_busy : slice_get before.left 0 ≡ Some (record { surface = id; act = hold }) → IsInOrder old id before → Stays old new → HasRisen old.busy new.busy
       → HasGoneOn id hold old new before before Busy
   hold_busy left order stays busy = record {
-    event = λ mounted. record { as_before = record { nothing = record { coordinator = refl; mounts = refl }; now = refl; held = refl }; stays = stays; busy = busy };
+    event = λ mounted. record { as_before = record { coordinator = refl; actor = refl }; stays = stays; busy = busy };
     order = order_later hold (λ x. x) left order;
     elsewhere = same_elsewhere;
   }
@@ -163,7 +163,7 @@ module _ (id : ℕ) (old new : Told) (lasts : Lasts old new) (before : RunningAc
   pub hold_in_vain : slice_get before.left 0 ≡ Some (record { surface = id; act = hold }) → IsInOrder old id before → Stays old new
       → HasGoneOn id hold old new before before Memory
   hold_in_vain left order stays = record {
-    event = λ mounted. record { as_before = record { nothing = record { coordinator = refl; mounts = refl }; now = refl; held = refl }; no_offer = tt; look = inl stays };
+    event = λ mounted. record { as_before = record { coordinator = refl; actor = refl }; no_offer = tt; look = inl stays };
     order = order_later hold (λ x. x) left order;
     elsewhere = same_elsewhere;
   }
@@ -171,7 +171,7 @@ module _ (id : ℕ) (old new : Told) (lasts : Lasts old new) (before : RunningAc
   pub pull_busy : (was is : PlainCoordinator) → slice_get before.left 0 ≡ Some (record { surface = id; act = mount }) → IsInOrder old id before → Stays old new
       → HasRisen old.busy new.busy → is ≡ was → HasPulled id old new (Some was) (Some is) before before Busy
   pull_busy was is left order stays busy same = record {
-    event = record { as_before = record { nothing = record { coordinator = ap Some same; mounts = refl }; now = refl; held = refl }; stays = stays; busy = busy };
+    event = record { as_before = record { coordinator = ap Some same; actor = refl }; stays = stays; busy = busy };
     order = order_later mount (λ x. x) left order;
     elsewhere = same_elsewhere;
   }
@@ -179,7 +179,7 @@ module _ (id : ℕ) (old new : Told) (lasts : Lasts old new) (before : RunningAc
   pub pull_in_vain : (was is : PlainCoordinator) → slice_get before.left 0 ≡ Some (record { surface = id; act = mount }) → IsInOrder old id before
       → Stays old new ⊎ HasLooked old new → is ≡ was → HasPulled id old new (Some was) (Some is) before before Memory
   pull_in_vain was is left order look same = record {
-    event = record { as_before = record { nothing = record { coordinator = ap Some same; mounts = refl }; now = refl; held = refl }; no_offer = tt; look = look };
+    event = record { as_before = record { coordinator = ap Some same; actor = refl }; no_offer = tt; look = look };
     order = order_later mount (λ x. x) left order;
     elsewhere = same_elsewhere;
   }

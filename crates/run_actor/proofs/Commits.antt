@@ -114,11 +114,7 @@ module _ (id : ℕ) (op : PlainOp) (old new : Told) (lasts : Lasts old new) (act
   pub went_busy : IsBusyEvent old new under under' → HasGoneOn id (commit op) old new (with_commit (Some under) actor) (with_commit (Some under') actor) Busy
   went_busy event = record {
     event = λ mounted. record {
-      as_before = record {
-        nothing = record { coordinator = refl; mounts = refl };
-        now = ap (λ (commit : PlainCommit). actor_now (with_commit (Some commit) actor)) event.as_before.same;
-        held = refl;
-      };
+      as_before = record { coordinator = refl; actor = ap (λ (commit : PlainCommit). with_commit (Some commit) actor) event.as_before.same };
       stays = event.stays;
       busy = event.busy;
     };
@@ -132,11 +128,7 @@ module _ (id : ℕ) (op : PlainOp) (old new : Told) (lasts : Lasts old new) (act
   pub went_in_vain : IsLookInVain old new under under' → HasGoneOn id (commit op) old new (with_commit (Some under) actor) (with_commit (Some under') actor) Memory
   went_in_vain event = record {
     event = λ mounted. record {
-      as_before = record {
-        nothing = record { coordinator = refl; mounts = refl };
-        now = ap (λ (commit : PlainCommit). actor_now (with_commit (Some commit) actor)) event.as_before.same;
-        held = refl;
-      };
+      as_before = record { coordinator = refl; actor = ap (λ (commit : PlainCommit). with_commit (Some commit) actor) event.as_before.same };
       no_offer = event.looked;
       look = event.look;
     };
@@ -263,37 +255,42 @@ module _ (id : ℕ) (op : PlainOp) (old new : Told) (actor after : RunningActor)
     record { coordinator = done.1.coordinator; mounts = done.1.mounts },
   )
 
-  pub event_of_begun : (event : Event) → HasGoneOn id (commit op) old new (with_commit (Some begun) actor) after event → HasGoneOn id (commit op) old new actor after event
-  event_of_begun Did gone = record {
+  event_of_begun : HasGoneOn id (commit op) old new (with_commit (Some begun) actor) after Did → HasGoneOn id (commit op) old new actor after Did
+  event_of_begun gone = record {
     event = λ mounted. done_of_begun mounted mounted (gone.event mounted);
     order = gone.order;
     elsewhere = record { number = gone.elsewhere.number; held = gone.elsewhere.held; commit = gone.elsewhere.commit };
   }
-  event_of_begun Busy gone = record {
-    event = λ mounted. let e = gone.event mounted in record {
-      as_before = record {
-        nothing = record { coordinator = e.as_before.nothing.coordinator; mounts = e.as_before.nothing.mounts };
-        now = e.as_before.now ∙ now;
-        held = e.as_before.held;
-      };
-      stays = e.stays;
-      busy = e.busy;
-    };
-    order = gone.order;
-    elsewhere = record { number = gone.elsewhere.number; held = gone.elsewhere.held; commit = gone.elsewhere.commit };
+
+  -- where its commit is put away again, an actor that stayed as it was is in order
+  order_without : actor.commit ≡ None → after ≡ with_commit (Some begun) actor → IsInOrder new id after → IsInOrder new id actor
+  order_without none same order =
+      let kept = subst (IsInOrder new id) same order in
+      record {
+        reached = kept.reached;
+        holding = record { revision = kept.holding.revision; held = kept.holding.held; within = kept.holding.within; stands = kept.holding.stands };
+        commit = λ op there under is. absurd (none-some under (sym none ∙ is));
+      }
+
+  elsewhere_without : KeepsElsewhere id actor actor
+  elsewhere_without = record { number = refl; held = λ other off. refl; commit = λ under e. refl }
+
+  busy_without : actor.commit ≡ None → HasGoneOn id (commit op) old new (with_commit (Some begun) actor) after Busy → HasGoneOn id (commit op) old new actor actor Busy
+  busy_without none gone = record {
+    event = λ mounted. let e = gone.event mounted in record { as_before = record { coordinator = refl; actor = refl }; stays = e.stays; busy = e.busy };
+    order = order_without none (gone.event None).as_before.actor gone.order;
+    elsewhere = elsewhere_without;
   }
-  event_of_begun Memory gone = record {
+
+  vain_without : actor.commit ≡ None → HasGoneOn id (commit op) old new (with_commit (Some begun) actor) after Memory → HasGoneOn id (commit op) old new actor actor Memory
+  vain_without none gone = record {
     event = λ mounted. let e = gone.event mounted in record {
-      as_before = record {
-        nothing = record { coordinator = e.as_before.nothing.coordinator; mounts = e.as_before.nothing.mounts };
-        now = e.as_before.now ∙ now;
-        held = e.as_before.held;
-      };
+      as_before = record { coordinator = refl; actor = refl };
       no_offer = looked_same ∙ e.no_offer;
       look = e.look;
     };
-    order = gone.order;
-    elsewhere = record { number = gone.elsewhere.number; held = gone.elsewhere.held; commit = gone.elsewhere.commit };
+    order = order_without none (gone.event None).as_before.actor gone.order;
+    elsewhere = elsewhere_without;
   }
 
 -- a commit that was taken out of its actor may go on
@@ -324,12 +321,34 @@ gone_before id op old new before mid after under came mid_is has gone =
 pub taken_same : (before mid : RunningActor) → mid ≡ with_commit None before → before.commit ≡ None → mid ≡ before
 taken_same before mid mid_is none = mid_is ∙ (λ i. with_commit (sym none i) before)
 
--- the event of a commit that began is one of the actor before
-pub gone_begun : (id : ℕ) (op : PlainOp) (old new : Told) (before mid after : RunningActor) (begun : PlainCommit) (came : Event) → mid ≡ with_commit None before → before.commit ≡ None
-    → begun.tries ≡ 0 → looked_at begun ≡ None → HasGoneOn id (commit op) old new (with_commit (Some begun) mid) after came → HasGoneOn id (commit op) old new before after came
-gone_begun id op old new before mid after begun came mid_is none tries looked gone =
-    subst (λ before. HasGoneOn id (commit op) old new before after came) (taken_same before mid mid_is none)
-    (event_of_begun id op old new mid after begun (begun_same mid begun (ap (λ (a : RunningActor). a.commit) mid_is) tries looked) came gone)
+-- an actor whose commit is put away again is as it was
+put_away : (actor after last : RunningActor) (begun : PlainCommit) → actor.commit ≡ None → last ≡ with_commit None after → after ≡ with_commit (Some begun) actor → last ≡ actor
+put_away actor after last begun none last_is same = last_is ∙ ap (with_commit None) same ∙ (λ i. with_commit (sym none i) actor)
+
+-- the first look of a commit that begins is an event of the actor before
+pub begun_did : (id : ℕ) (op : PlainOp) (old new : Told) (actor after : RunningActor) (begun : PlainCommit) → actor.commit ≡ None → begun.tries ≡ 0 → looked_at begun ≡ None
+    → HasGoneOn id (commit op) old new (with_commit (Some begun) actor) after Did → HasGoneOn id (commit op) old new actor after Did
+begun_did id op old new actor after begun none tries looked gone = event_of_begun id op old new actor after begun (begun_same actor begun none tries looked) gone
+
+-- where it found the port busy and the commit is put away again, all is as before
+pub begun_busy : (id : ℕ) (op : PlainOp) (old new : Told) (actor after last : RunningActor) (begun : PlainCommit) → actor.commit ≡ None → begun.tries ≡ 0 → looked_at begun ≡ None
+    → last ≡ with_commit None after → HasGoneOn id (commit op) old new (with_commit (Some begun) actor) after Busy → HasGoneOn id (commit op) old new actor last Busy
+begun_busy id op old new actor after last begun none tries looked last_is gone =
+    subst (λ last. HasGoneOn id (commit op) old new actor last Busy) (sym (put_away actor after last begun none last_is (gone.event None).as_before.actor))
+    (busy_without id op old new actor after begun (begun_same actor begun none tries looked) none gone)
+
+-- and so where there was no memory
+pub begun_in_vain : (id : ℕ) (op : PlainOp) (old new : Told) (actor after last : RunningActor) (begun : PlainCommit) → actor.commit ≡ None → begun.tries ≡ 0 → looked_at begun ≡ None
+    → last ≡ with_commit None after → HasGoneOn id (commit op) old new (with_commit (Some begun) actor) after Memory → HasGoneOn id (commit op) old new actor last Memory
+begun_in_vain id op old new actor after last begun none tries looked last_is gone =
+    subst (λ last. HasGoneOn id (commit op) old new actor last Memory) (sym (put_away actor after last begun none last_is (gone.event None).as_before.actor))
+    (vain_without id op old new actor after begun (begun_same actor begun none tries looked) none gone)
+
+-- what an event of an actor from which its commit was taken out says of the actor before, where it had none
+pub gone_taken : (id : ℕ) (op : PlainOp) (old new : Told) (before mid after : RunningActor) (came : Event) → mid ≡ with_commit None before → before.commit ≡ None
+    → HasGoneOn id (commit op) old new mid after came → HasGoneOn id (commit op) old new before after came
+gone_taken id op old new before mid after came mid_is none gone =
+    subst (λ before. HasGoneOn id (commit op) old new before after came) (taken_same before mid mid_is none) gone
 
 -- where a commit can't begin, all is as before
 pub gone_nowhere : (id : ℕ) (op : PlainOp) (told : Told) (before mid : RunningActor) → mid ≡ with_commit None before → before.commit ≡ None → IsInOrder told id before
@@ -337,7 +356,7 @@ pub gone_nowhere : (id : ℕ) (op : PlainOp) (told : Told) (before mid : Running
 gone_nowhere id op told before mid mid_is none order =
     subst (λ after. HasGoneOn id (commit op) told told before after Memory) (sym (taken_same before mid mid_is none)) (record {
       event = λ mounted. record {
-        as_before = record { nothing = record { coordinator = refl; mounts = refl }; now = refl; held = refl };
+        as_before = record { coordinator = refl; actor = refl };
         no_offer = ap (λ (under : Option PlainCommit). (actor_now (with_commit under before)).looked) none;
         look = inl (stays_same told);
       };

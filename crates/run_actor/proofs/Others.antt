@@ -127,8 +127,8 @@ module _ (id other : ℕ) (start told old new : Told) (opened mounted was is : O
         | inl done ↦ did_elsewhere done
         | inr busy ↦
             same_on
-            (subst (IsLegalSoFar as_written told.first other told.seen told.floor begun.number begun.left) (sym busy.as_before.now) on.legal)
-            (subst (NamesTheSame as_written other told.seen begun.number begun.left now) (sym busy.as_before.now) (record { looks = refl; records = refl; passages = refl; held = refl }))
-            (ap (mounts_made_on other) busy.as_before.nothing.mounts)
-            (omega (arith, ap (λ (a : ActorNow). count_by (commits_on other) a.left) busy.as_before.now))
+            (subst (IsLegalSoFar as_written told.first other told.seen told.floor begun.number begun.left) (sym (ap actor_now busy.as_before.actor)) on.legal)
+            (subst (NamesTheSame as_written other told.seen begun.number begun.left now) (sym (ap actor_now busy.as_before.actor)) (record { looks = refl; records = refl; passages = refl; held = refl }))
+            (ap (mounts_made_on other) (ap (λ (a : RunningActor). a.mounts) busy.as_before.actor))
+            (omega (arith, ap (λ (a : RunningActor). count_by (commits_on other) a.left) busy.as_before.actor))
       ]

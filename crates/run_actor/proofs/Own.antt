@@ -333,7 +333,7 @@ module _ (id : ℕ) (start old new : Told) (opened was is : Option PlainCoordina
 
   was_busy : IsBusy old new was is before after → RunsOn id start new opened is begun after
   was_busy event =
-      rested event.stays event.as_before.nothing (actor_now before) event.as_before.now (legal_still event.stays new.floor lasts.floor) far.through
+      rested event.stays (record { coordinator = event.as_before.coordinator; mounts = ap (λ (a : RunningActor). a.mounts) event.as_before.actor }) (actor_now before) (ap actor_now event.as_before.actor) (legal_still event.stays new.floor lasts.floor) far.through
       (record { looks = refl; records = refl; passages = refl; held = refl }) refl refl
 
   -- a mount

@@ -134,11 +134,10 @@ HasDone id (commit op) old new was is before after =
 HasDone id hold old new was is before after = IsHoldEvent id old new (base_of was) before after × MountsNothing was is before after
 HasDone id mount old new was is before after = IsMountEvent id old new was is before after
 
--- an actor and what is mounted are as before; where its step is a commit, that may have begun
+-- an actor and what is mounted are as before
 pub record AreAsBefore (was is : Option PlainCoordinator) (before after : RunningActor) : Type 0 where
-  pub nothing : MountsNothing was is before after
-  pub now : actor_now after ≡ actor_now before
-  pub held : after.held ≡ before.held
+  pub coordinator : is ≡ was
+  pub actor : after ≡ before
 
 -- a step that does not offer: a commit is to look
 abbrev pub IsNoOffer : PlainAct → RunningActor → Type 0

@@ -151,8 +151,7 @@ impl<'a> Actor<'a> {
     /// One event of the step that it is at, at the port of the step's surface. On a step that is no
     /// mount `mount` stays.
     ///
-    /// After `Busy` and `Memory` its answers, its tries, what it holds and `mount` are as before; a
-    /// commit may have begun, with no look so far. An offer never answers `Memory`.
+    /// After `Busy` and `Memory` the actor and `mount` are as before. An offer never answers `Memory`.
     pub fn event<P: Port>(
         &mut self,
         alloc: Global,
@@ -285,9 +284,38 @@ impl<'a> Actor<'a> {
         match self.take_commit() {
             Some(commit) => self.go_on(alloc, made, port, id, commit),
             None => match self.begin(id, op) {
-                Ok(commit) => self.go_on(alloc, made, port, id, commit),
+                Ok(commit) => self.look_first(alloc, made, port, id, commit),
                 Err(_) => Event::Memory,
             },
+        }
+    }
+
+    /// The first look of a commit that begins. Where it does not come about, none has begun.
+    fn look_first<P: Port>(
+        &mut self,
+        alloc: Global,
+        made: &mut Made,
+        port: &mut P,
+        id: u32,
+        commit: Committer,
+    ) -> Event
+        requires may { MayGoOn (P.told port.old) id commit self.old }
+        requires none { self.old.commit ≡ None }
+        requires tries { commit.tries ≡ 0 }
+        requires looked { looked_at commit ≡ None }
+        ensures lasts { Lasts (P.told port.old) (P.told port.new) }
+        ensures gone { (op : PlainOp) → slice_get self.old.left 0 ≡ Some (record { surface = id; act = commit_of op }) → HasGoneOn id (commit_of op) (P.told port.old) (P.told port.new) self.old self.new result }
+    {
+        match self.go_on(alloc, made, port, id, commit) {
+            Event::Did => Event::Did,
+            Event::Busy => {
+                self.end_commit();
+                Event::Busy
+            }
+            Event::Memory => {
+                self.end_commit();
+                Event::Memory
+            }
         }
     }
 

@@ -264,6 +264,7 @@ module _ (script : PlainScript) (sound : IsSoundScript script) (spines : List (�
               (record {
                 spine = refl;
                 mark = refl;
+                first = ap (λ (e : ℕ × PassValue). e.1.kept.mark.first) given.2 ∙ split.first;
                 shares = omega arith;
                 looks = omega arith;
                 own = own;

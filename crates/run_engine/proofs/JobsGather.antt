@@ -10,6 +10,7 @@ use Rattle.counts.specs.Raised.{raised}
 use Rattle.tree_revision.specs.Records.{PlainRecord}
 use Rattle.tree_revision.specs.Script.{PlainActor, PlainSurface}
 use Rattle.tree_revision.specs.Sound.{mounts_on}
+use Rattle.tree_revision.specs.Lawful.{IsLawful}
 use Rattle.tree_revision.specs.Ports.{BeginsWith}
 use Rattle.mount_coordinator.specs.Mounted.{PlainCoordinator, IsBaseIn}
 use Rattle.mount_coordinator.proofs.Mounting.{still_base}
@@ -61,10 +62,10 @@ legal_over_more surface records longer number plan actor begins legal = record {
 
 -- so what an actor has worked on a surface
 worked_over_more : (surface : PlainSurface) (records longer : List PlainRecord) (number : ℕ) (plan : PlainActor) (actor : RunningActor) → BeginsWith longer records
-    → HasWorkedOn surface records number plan actor → HasWorkedOn surface longer number plan actor
-worked_over_more surface records longer number plan actor begins worked = record {
+    → IsLawful surface.size longer → HasWorkedOn surface records number plan actor → HasWorkedOn surface longer number plan actor
+worked_over_more surface records longer number plan actor begins lawful worked = record {
   answers = legal_over_more surface records longer number plan actor begins worked.answers;
-  mounts = λ history more. worked.mounts history (begins_both history longer records more begins);
+  mounts = mounts_stay surface.size surface.id records longer number actor.answers (mounts_made_on surface.id actor.mounts) begins lawful worked.mounts;
 }
 
 -- the records that answers name, of one actor more
@@ -148,11 +149,18 @@ module _ (surface : PlainSurface) (done : List PlainActor) (plan : PlainActor) (
   own_legal : AreLegalAnswers as_written surface.size surface.id is.kept.seen (length done) plan.steps actor.answers
   own_legal = legal_over_more surface gone.kept.seen is.kept.seen (length done) plan actor join.gone_seen left.answers
 
+  first_is : is.kept.mark.first ≡ surface.size
+  first_is = ap (λ (k : KeptByPass). k.mark.first) join.kept ∙ before.first
+
+  -- what all have seen is lawful
+  lawful : IsLawful surface.size is.kept.seen
+  lawful = subst (λ size. IsLawful size is.kept.seen) first_is join.lawful
+
   own_worked : HasWorkedOn surface is.kept.seen (length done) plan actor
   own_worked = record {
     answers = own_legal;
-    mounts = λ history more lawful. mounts_stay surface.size surface.id gone.kept.seen history (length done) actor.answers (mounts_made_on surface.id actor.mounts)
-        (begins_both history is.kept.seen gone.kept.seen more join.gone_seen) lawful left.mounts;
+    mounts = mounts_stay surface.size surface.id gone.kept.seen is.kept.seen (length done) actor.answers (mounts_made_on surface.id actor.mounts)
+        join.gone_seen lawful left.mounts;
   }
 
   own_records : is.kept.own ≡ records_from surface.id is.kept.seen 0 (done ++ plan ∷ []) (actors ++ actor ∷ [])
@@ -189,6 +197,7 @@ module _ (surface : PlainSurface) (done : List PlainActor) (plan : PlainActor) (
       record {
         spine = join.spine ∙ before.spine;
         mark = ap (λ (k : KeptByPass). k.mark) join.kept ∙ before.mark;
+        first = first_is;
         shares =
             let shares : is.kept.shares ≡ was.kept.shares + gone.kept.shares = ap (λ (k : KeptByPass). k.shares) join.kept in
             let longer = length-append done (plan ∷ []) in omega (arith, shares, longer, before.shares, left.shares);
@@ -196,7 +205,7 @@ module _ (surface : PlainSurface) (done : List PlainActor) (plan : PlainActor) (
         own = own_records;
         permits = all_permits;
         each = both_push (λ n p a. HasWorkedOn surface is.kept.seen n p a) done actors plan actor count
-            (λ n p a at to. worked_over_more surface was.kept.seen is.kept.seen n p a join.seen (before.each n p a at to)) own_worked;
+            (λ n p a at to. worked_over_more surface was.kept.seen is.kept.seen n p a join.seen lawful (before.each n p a at to)) own_worked;
         base = base.0;
         stands = base.1;
         none = base.2;

@@ -36,6 +36,7 @@ use Rattle.commit_spine.specs.Passes.{times_own}
 use Rattle.commit_spine.specs.SpineRule.{StandsAt, AllStandIn}
 use Rattle.commit_spine.specs.SpinePasses.{PassValue}
 use Rattle.run_actor.specs.Actors.{RunningActor, actor_now}
+use Rattle.run_report.proofs.EventLegal.{mounts_stay}
 use Rattle.run_actor.specs.Runs.{mounts_made_on}
 use Rattle.run_engine.specs.Ends.{mounts_of, part_over}
 use Rattle.run_engine.specs.Workers.{records_by, records_from, passages_of, HasFinished, HaveWorkedOn, HaveWorked}
@@ -119,7 +120,9 @@ module _ (script : PlainScript) (surface : PlainSurface) (was is : PassValue) (m
   -- and its mounts follow over it
   mounts_over : (number : ℕ) (plan : PlainActor) (actor : RunningActor) → slice_get script.actors number ≡ Some plan → slice_get actors number ≡ Some actor
       → MountsFollow surface.size surface.id part.records number actor.answers (mounts_made_on surface.id actor.mounts)
-  mounts_over number plan actor planned at = (worked.each number plan actor planned at).mounts part.records end.seen lawful
+  mounts_over number plan actor planned at =
+      mounts_stay surface.size surface.id is.kept.seen part.records number actor.answers (mounts_made_on surface.id actor.mounts) end.seen lawful
+      (worked.each number plan actor planned at).mounts
 
   -- the mounts of all lie along the passages that are named
   along : map plain_mount mounts ≡ map (mount_along is.kept.mark.first part.records) (passages_of surface.id actors)

@@ -9,6 +9,7 @@ use Rattle.tree_revision.specs.Settled.{KeptRevision}
 use Rattle.tree_revision.specs.Stands.{StandsFor}
 use Rattle.shadow_frame.specs.declared.Size.{Size}
 use Rattle.tree_revision.specs.Sound.{HasOneMounter, mounts_on}
+use Rattle.tree_revision.specs.Lawful.{IsLawful}
 use Rattle.tree_revision.specs.Ports.{BeginsWith}
 use Rattle.mount_coordinator.specs.Mounted.{PlainCoordinator, IsBaseIn, IsBaseOf}
 use Rattle.run_report.specs.Wishes.{as_written}
@@ -175,6 +176,7 @@ pub record IsJoin (was gone is : PassValue) : Type 0 where
   pub kept : is.kept ≡ after_join was.kept gone.kept
   pub seen : BeginsWith is.kept.seen was.kept.seen
   pub gone_seen : BeginsWith is.kept.seen gone.kept.seen
+  pub lawful : IsLawful is.kept.mark.first is.kept.seen
 
 -- passes may be joined to those of these spines, in their order
 pub record MayJoin (spines : List (ℕ × Spine)) (passes : List (ℕ × PassValue)) (own : List PassValue) : Type 0 where
@@ -205,6 +207,7 @@ pub record MayGather (spines : List (ℕ × Spine)) (passes : List (ℕ × PassV
 pub record HasGathered (surface : PlainSurface) (done : List PlainActor) (actors : List RunningActor) (old new : PassValue) (mounted : PlainCoordinator) : Type 0 where
   pub spine : new.spine ≡ old.spine
   pub mark : new.kept.mark ≡ old.kept.mark
+  pub first : new.kept.mark.first ≡ surface.size
   pub shares : new.kept.shares ≡ old.kept.shares + length done
   pub looks : new.kept.looks ≡ raised old.kept.looks (sum_by (λ actor. looks_named surface.id actor.answers) actors)
   pub own : new.kept.own ≡ records_from surface.id new.kept.seen 0 done actors

@@ -6,8 +6,6 @@ use Rattle.counts.specs.Raised.{raised}
 use Rattle.tree_revision.specs.Records.{PlainRecord}
 use Rattle.tree_revision.specs.Script.{PlainActor, PlainSurface, PlainScript}
 use Rattle.tree_revision.specs.Sound.{ids_of}
-use Rattle.tree_revision.specs.Lawful.{IsLawful}
-use Rattle.tree_revision.specs.Ports.{BeginsWith}
 use Rattle.mount_coordinator.specs.Mounted.{PlainCoordinator, IsBaseIn}
 use Rattle.run_report.specs.Legal.{Answers}
 use Rattle.run_report.specs.Wishes.{as_written}
@@ -59,11 +57,10 @@ records_from id entries number _ _ = []
 abbrev pub passages_of : (id : ℕ) → List RunningActor → List Passage
 passages_of id actors = flat_map (λ entry. passages_by id entry.0 entry.1.answers) (enumerate_from 0 actors)
 
--- an actor is legal on a surface over these records, and its mounts there follow over each lawful history that begins with them
+-- an actor is legal on a surface over these records, and its mounts there follow over them
 pub record HasWorkedOn (surface : PlainSurface) (entries : List PlainRecord) (number : ℕ) (plan : PlainActor) (actor : RunningActor) : Type 0 where
   pub answers : AreLegalAnswers as_written surface.size surface.id entries number plan.steps actor.answers
-  pub mounts : (history : List PlainRecord) → BeginsWith history entries → IsLawful surface.size history
-      → MountsFollow surface.size surface.id history number actor.answers (mounts_made_on surface.id actor.mounts)
+  pub mounts : MountsFollow surface.size surface.id entries number actor.answers (mounts_made_on surface.id actor.mounts)
 
 -- what the workers leave of a surface: its pass has its shares again, looks, own records and permits are those that all answers name, and over all that the pass has seen each actor is legal; its coordinator's base is what the last of the mounts leads to
 pub record HaveWorkedOn (script : PlainScript) (surface : PlainSurface) (old new : PassValue) (mounted : PlainCoordinator) (actors : List RunningActor) : Type 0 where

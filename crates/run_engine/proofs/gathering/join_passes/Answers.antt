@@ -35,7 +35,7 @@ loop-pass-preserved c =
     c.in-Some-get_index_mut.keep.now c.in-Some.pass c.requires c.loop-pass.invariant.2 c.loop-pass.invariant.4 (sym c.in-Some-get_index.ensures.entry)
     (sym c.get_index_mut.ensures.value ∙ ap option_copied_mut c.in-Some-get_index_mut.is) gone
     c.join.new.keep (c.loop-pass.place + 1) s c.join.ensures.spine
-    (record { spine = c.join.ensures.spine; kept = c.join.ensures.kept; seen = c.join.ensures.seen; gone_seen = c.join.ensures.gone_seen }) c.loop-pass.invariant.3 in (
+    (record { spine = c.join.ensures.spine; kept = c.join.ensures.kept; seen = c.join.ensures.seen; gone_seen = c.join.ensures.gone_seen; lawful = c.join.ensures.lawful }) c.loop-pass.invariant.3 in (
       yielded_next c.args.own.items c.loop-pass.yielded c.loop-pass.pass-iterator.rest.items c.next.new.self.rest.items c.in-Some.pass c.loop-pass.invariant.0 c.in-Some.ensures.steps.0,
       omega (arith, longer, c.loop-pass.invariant.1),
       next.0,

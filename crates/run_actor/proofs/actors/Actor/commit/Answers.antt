@@ -2,7 +2,7 @@ use Rattle.std.proofs.Common.{◌∙◌, ap, sym}
 use Rattle.std.specs.Prelude.{slice_get}
 use Rattle.tree_revision.specs.Records.{plain_op}
 use Rattle.run_actor.specs.Actors.{RunningActor}
-use Rattle.run_actor.proofs.Commits.{may_go_on, begun_may, holding_taken, gone_before, gone_begun, gone_nowhere}
+use Rattle.run_actor.proofs.Commits.{may_go_on, begun_may, holding_taken, gone_before, gone_taken, gone_nowhere}
 use Rattle.run_actor.proofs.actors.Actor.commit.Goals as goal
 
 pub go_on-requires : goal.go_on-requires
@@ -15,8 +15,8 @@ pub begin-requires-clause-holding : goal.begin-requires-clause-holding
 begin-requires-clause-holding g c =
     (g.P.Port.told c.args.port.now, holding_taken (g.P.Port.told c.args.port.now) c.args.id c.args.self.now c.take_commit.new.self c.take_commit.ensures.rest c.requires.order)
 
-pub go_on-requires-in-Ok : goal.go_on-requires-in-Ok
-go_on-requires-in-Ok g c =
+pub look_first-requires-clause-may : goal.look_first-requires-clause-may
+look_first-requires-clause-may g c =
     let way = c.in-Ok.ensures.under_way (g.P.Port.told c.args.port.now)
     (holding_taken (g.P.Port.told c.args.port.now) c.args.id c.args.self.now c.take_commit.new.self c.take_commit.ensures.rest c.requires.order) in
     begun_may (g.P.Port.told c.args.port.now) c.args.id (plain_op c.args.op.now.value) c.args.self.now c.take_commit.new.self c.in-Ok.commit
@@ -30,10 +30,9 @@ returns-in-Some-clause-gone g c =
 
 pub returns-in-Ok-clause-gone : goal.returns-in-Ok-clause-gone
 returns-in-Ok-clause-gone g c =
-    gone_begun c.args.id (plain_op c.args.op.now.value) (g.P.Port.told c.args.port.now) (g.P.Port.told c.go_on-in-Ok.new.port) c.args.self.now c.take_commit.new.self
-    c.go_on-in-Ok.new.self c.in-Ok.commit c.go_on-in-Ok.result c.take_commit.ensures.rest (sym c.take_commit.ensures.commit ∙ c.in-None.is)
-    c.in-Ok.ensures.tries c.in-Ok.ensures.looked
-    (c.go_on-in-Ok.ensures.gone (plain_op c.args.op.now.value) (ap (λ (a : RunningActor). slice_get a.left 0) c.take_commit.ensures.rest ∙ c.requires.left))
+    gone_taken c.args.id (plain_op c.args.op.now.value) (g.P.Port.told c.args.port.now) (g.P.Port.told c.look_first.new.port) c.args.self.now c.take_commit.new.self
+    c.look_first.new.self c.look_first.result c.take_commit.ensures.rest (sym c.take_commit.ensures.commit ∙ c.in-None.is)
+    (c.look_first.ensures.gone (plain_op c.args.op.now.value) (ap (λ (a : RunningActor). slice_get a.left 0) c.take_commit.ensures.rest ∙ c.requires.left))
 
 pub returns-in-Err-clause-gone : goal.returns-in-Err-clause-gone
 returns-in-Err-clause-gone g c =
