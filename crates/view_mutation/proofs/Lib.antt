@@ -15,3 +15,5 @@ pub mod Skipped
 pub mod Since
 pub mod SameSkipped
 pub mod FiveTagged
+pub mod InStep
+pub mod InStepPlaces

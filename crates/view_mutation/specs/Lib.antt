@@ -5,3 +5,4 @@ pub mod Children
 pub mod Shorthands
 pub mod Since
 pub mod SameSkipped
+pub mod InStep

@@ -1,13 +1,13 @@
 //! The mutations that lead from one host tree to another.
 #![tactic(auto)]
 
-ghost use Rattle.std.specs.Prelude.{◌≡◌, ◌≤◌, length, map, IfOk, OnOk};
-ghost use Rattle.std.specs.List.{All};
+ghost use Rattle.std.specs.Prelude.{◌≡◌, ◌≤◌, length, map, nat_eq, IfOk, OnOk};
+ghost use Rattle.std.specs.List.{All, IsDistinct};
 ghost use Rattle.counts.specs.Raised.{raised};
 ghost use Rattle.tree_settle.specs.Limits.{IsForestInLimits};
 ghost use Rattle.shadow_node.specs.Entered.{AreAlikeSince, count_outside, is_kept_since, is_unchanged_since};
 ghost use Rattle.shadow_node.specs.Stamps.{stamp_in};
-ghost use Rattle.host_views.specs.Plain.{plain_mutation};
+ghost use Rattle.host_views.specs.Plain.{host_tags, plain_mutation};
 ghost use Rattle.view_flatten.specs.HostTree.{host_tree_of};
 ghost use Rattle.view_flatten.specs.Placed.{plain_place, plain_places};
 ghost use Rattle.view_mutation.specs.Lookups.{place_at};
@@ -16,6 +16,7 @@ ghost use Rattle.view_mutation.specs.SameSkipped.{IsSameAsBefore};
 ghost use Rattle.view_mutation.specs.Since.{AreTagged};
 
 mod children;
+mod in_step;
 pub mod laws;
 mod tags;
 #[cfg(test)]
@@ -23,6 +24,7 @@ mod tests;
 
 use children::{add_inserts, add_removes, children_of};
 use host_views::Mutation;
+use in_step::{are_in_step, updates_of};
 use shadow_node::{Forest, Stamps};
 use sqlite_items::Items;
 use std::alloc::{AllocError, Global};
@@ -52,6 +54,25 @@ fn mutations_of(
     add_updates(alloc, &mut list, new, old, &old_index)?;
     add_inserts(&mut list, new, &old_children, &new_children)?;
     Ok(list)
+}
+
+/// The same, where the tags of the new ones differ: lists in step are compared place by place.
+fn mutations_in_step(
+    alloc: Global,
+    old: &[Placed<'_>],
+    new: &[Placed<'_>],
+) -> Result<Items<Mutation>, AllocError>
+    requires old_count { length old.now ≤ 2000 }
+    requires new_count { length new.now ≤ 2000 }
+    requires differ { IsDistinct nat_eq (host_tags (plain_places new.now)) }
+    requires alike { All (λ is. IsSameAsBefore (place_at old.now (plain_place is).tag) is) new.now }
+    ensures { IfOk result (λ list. map plain_mutation list ≡ mutations_between (plain_places old.now) (plain_places new.now)) }
+{
+    if are_in_step(old, new) {
+        updates_of(alloc, old, new)
+    } else {
+        mutations_of(alloc, old, new)
+    }
 }
 
 /// The mutations that lead from the host tree of one forest to that of another.
@@ -92,5 +113,5 @@ pub fn mutations_since(
     } = places(alloc, new, &Skip::Since(base))?;
     skipped.sort()?;
     let old_places = places(alloc, old, &Skip::Tags(&skipped))?;
-    mutations_of(alloc, &old_places.list, &new_places)
+    mutations_in_step(alloc, &old_places.list, &new_places)
 }

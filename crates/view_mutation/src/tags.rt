@@ -107,7 +107,7 @@ pub fn add_creates(
 
 /// Whether the views at two places are equal in every part. Those of nodes that were not entered
 /// differ at most in where they begin.
-fn is_same(was: &Placed<'_>, is: &Placed<'_>) -> bool
+pub fn is_same(was: &Placed<'_>, is: &Placed<'_>) -> bool
     requires { IsSameButOrigin was.now is.now }
     ensures { result ≡ is_same_view (plain_place was.now).view (plain_place is.now).view }
 {
