@@ -1,4 +1,4 @@
-use Rattle.std.proofs.Common.{◌≡◌, sym, ap, subst, ◌∙◌, IfOk, rules}
+use Rattle.std.proofs.Common.{◌≡◌, sym, subst, IfOk, rules}
 use Rattle.std.specs.List.Sorted.{IsPermutation}
 use Rattle.std.proofs.lemmas.List.Sorted.{IsNonDecreasingBy-from_sort_by_key}
 use Rattle.page_map.proofs.Sorted.{distinct, distinct_permuted, rising_of, same_added}
