@@ -13,10 +13,11 @@ settle-requires-clause-depth c =
     let depth = depth_of-forest_map (λ (settled : SettledFields). settled.fields) c.args.forest.now in
     omega (arith, depth, c.requires.within.depth)
 
-still_within : (answer : Result (PlainForest SettledFields) AllocError) (forest : PlainForest SettledFields) → IsForestWithin (contents_of forest)
-    → IfOk answer (λ settled. IsForestWithin (contents_of forest) → IsForestInLimits settled) → IfOk answer (λ settled. IsForestWithin (contents_of settled))
-still_within (Ok settled) forest within limits = (limits within).within
-still_within (Err error) forest within limits = tt
+-- a forest within the limits is in them once it is settled
+in_limits : (answer : Result (PlainForest SettledFields) AllocError) (forest : PlainForest SettledFields) → IsForestWithin (contents_of forest)
+    → IfOk answer (λ settled. IsForestWithin (contents_of forest) → IsForestInLimits settled) → IfOk answer IsForestInLimits
+in_limits (Ok settled) forest within limits = limits within
+in_limits (Err error) forest within limits = tt
 
 pub returns : goal.returns
-returns c = still_within c.settle.result c.args.forest.now c.requires.within c.settle.ensures.limits
+returns c = in_limits c.settle.result c.args.forest.now c.requires.within c.settle.ensures.limits
