@@ -1,12 +1,12 @@
 -- When a node stays as it is.
-use Rattle.std.proofs.Common.{◌≡◌, ℕ, zero, suc, ◌+◌, ◌∙◌, Bool, true, false, not, ◌&&◌, Option, Some, None, is_some, unwrap_or, refl, sym, arith}
+use Rattle.std.proofs.Common.{◌≡◌, ℕ, zero, suc, ◌+◌, ◌∙◌, Bool, true, false, not, ◌&&◌, Option, Some, None, is_some, unwrap_or, Decides, refl, ap, sym, arith}
 use Rattle.std.specs.Prelude.{nat_lt}
 use Rattle.std.specs.Option.{option_eq}
 use Rattle.std.proofs.lemmas.Bool.Decides.{Decides-and, nat_tests}
 use Rattle.shadow_frame.specs.declared.Rect.{Rect}
 use Rattle.shadow_frame.specs.declared.Size.{Size}
 use Rattle.shadow_frame.specs.Same.{is_same_frame}
-use Rattle.shadow_frame.proofs.Same.{same_options, same_frames}
+use Rattle.shadow_frame.proofs.Same.{by_parts, same_options, same_frames}
 use Rattle.native_state.specs.declared.StateCell.{StateCell}
 use Rattle.native_state.specs.Same.{is_same_cell}
 use Rattle.native_state.proofs.Same.{same_cells}
@@ -17,13 +17,15 @@ use Rattle.shadow_node.specs.Frames.{frame_in, state_when}
 use Rattle.tree_settle.specs.Changes.{is_settled, changes_with, changes_in}
 use Rattle.tree_settle.specs.Walk.{fields_in, settled_in, settled_tree, changes_of}
 
--- a node that is settled has its state and its frame
-fields_settled : (parent : Size) (newest : ℕ → StateCell) (settled : SettledFields) → is_settled parent newest settled ≡ true → settled ≡ fields_in parent newest settled.fields
-fields_settled parent newest settled h =
-    let same = (Decides-and _ _
+-- a node is settled exactly where it has its state and its frame
+pub decides_settled : (parent : Size) (newest : ℕ → StateCell) (settled : SettledFields) → Decides (is_settled parent newest settled) (settled ≡ fields_in parent newest settled.fields)
+decides_settled parent newest settled =
+    by_parts _
+    (Decides-and _ _
     (same_options is_same_cell same_cells (state_when (has_state_of settled.fields.kind) (newest settled.fields.tag)) settled.state)
-    (same_frames (frame_in parent settled.fields) settled.frame)).0 h in
-    λ i. record { fields = settled.fields; state = sym same.0 i; frame = sym same.1 i }
+    (same_frames (frame_in parent settled.fields) settled.frame))
+    (λ same i. record { fields = settled.fields; state = sym same.0 i; frame = sym same.1 i })
+    (λ e. (sym (ap (λ s. s.state) e), sym (ap (λ s. s.frame) e)))
 
 -- where no other one came, it is the one that was
 not_some : {A : Type 0} (new : Option A) (old : A) → is_some new ≡ false → unwrap_or new old ≡ old
@@ -58,7 +60,7 @@ module _ (parent : Size) (newest : ℕ → StateCell) (tree : PlainNode SettledF
   pub tree_stays : unwrap_or new tree.children ≡ settled_in frame.size newest (contents_of tree.children) → stays ≡ true → tree ≡ settled_tree parent newest tree
   tree_stays below h =
       let both = both_true (is_some new) (is_settled parent newest tree.fields) (sym told_settled ∙ h) in
-      let fields = fields_settled parent newest tree.fields both.1 in
+      let fields = (decides_settled parent newest tree.fields).0 both.1 in
       let children : tree.children ≡ settled_in (frame_in parent tree.fields.fields).size newest (contents_of tree.children) =
       sym (not_some new tree.children both.0) ∙ (rw is_frame at below) in
       λ i. record { fields = fields i; children = children i }

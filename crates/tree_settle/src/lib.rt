@@ -12,11 +12,13 @@ ghost use Rattle.tree_settle.specs.Along.{IsSettledBut, changed_tags};
 ghost use Rattle.tree_settle.specs.Changes.{changes_in};
 ghost use Rattle.tree_settle.specs.Limits.{AreFramesInBounds, IsForestInLimits, IsSizeInRange};
 
+mod along;
 mod node;
 #[cfg(test)]
 mod tests;
 mod walk;
 
+use along::settle_along_in;
 use native_state::FamilyTable;
 use shadow_frame::Size;
 use shadow_node::{Forest, Made};
@@ -47,8 +49,15 @@ pub fn settle(
     forest_or_shared(new, forest)
 }
 
-/// The forest of a surface of that size, where it was settled for another size, but for the nodes on
-/// a way: the tags from a top node down.
+/// A parent's size, before a change and after it.
+#[derive(Clone, Copy)]
+pub struct SizeChange {
+    pub before: Size,
+    pub after: Size,
+}
+
+/// The forest of a surface, where it was settled for the size before, but for the nodes on a way:
+/// the tags from a top node down.
 ///
 /// All is as `settle` has it, at less cost: nodes on the way are entered, and else only what lies in
 /// a parent whose size changes. The tags of the nodes that change are added to a list, each after
@@ -58,18 +67,20 @@ pub fn settle_along(
     made: &mut Made,
     changed: &mut Vec<u32>,
     forest: &Forest,
-    sizes: (Size, Size),
+    size: SizeChange,
     families: &FamilyTable,
     way: &[u32],
 ) -> Result<Forest, AllocError>
-    requires size { IsSizeInRange sizes.1 }
+    requires size { IsSizeInRange size.after }
     requires depth { depth_of forest.now ≤ 48 }
-    requires but { IsSettledBut sizes.0 (cell_in families.now) way.now forest.now }
-    ensures forest { IfOk result (λ settled. settled ≡ settled_forest sizes.1 (cell_in families.now) (contents_of forest.now)) }
+    requires frames { AreFramesInBounds forest.now }
+    requires but { IsSettledBut size.before (cell_in families.now) way.now forest.now }
+    ensures forest { IfOk result (λ settled. settled ≡ settled_forest size.after (cell_in families.now) (contents_of forest.now)) }
     ensures frames { IfOk result AreFramesInBounds }
     ensures limits { IfOk result (λ settled. IsForestWithin (contents_of forest.now) → IsForestInLimits settled) }
-    ensures made { OnOk result (made.new ≡ nodes_more made.old (changes_in sizes.1 (cell_in families.now) forest.now)) }
-    ensures changed { OnOk result (changed.new.items ≡ changed.old.items ++ changed_tags sizes.1 (cell_in families.now) forest.now) }
+    ensures made { OnOk result (made.new ≡ nodes_more made.old (changes_in size.after (cell_in families.now) forest.now)) }
+    ensures changed { OnOk result (changed.new.items ≡ changed.old.items ++ changed_tags size.after (cell_in families.now) forest.now) }
 {
-    Err(AllocError)
+    let new = settle_along_in(alloc, made, changed, forest, size, families, way)?;
+    forest_or_shared(new, forest)
 }

@@ -1,15 +1,21 @@
 //! A forest that is settled again and again.
 
-ghost use Rattle.std.specs.Prelude.{◌≡◌, pos, ◌≤ℤ◌, ◌≤◌, ◌<◌, ◌^◌, is_some, IfOk};
+ghost use Rattle.std.specs.Prelude.{◌≡◌, true, false, Decides, pos, ◌≤ℤ◌, ◌≤◌, ◌<◌, ◌^◌, is_some, IfOk};
 ghost use Rattle.prop_table.specs.Table.{AreNodeProps};
+ghost use Rattle.native_state.specs.Families.{cell_in};
 ghost use Rattle.shadow_kinds.specs.Traits.{has_state_of, is_leaf_of};
 ghost use Rattle.shadow_node.specs.Fields.{contents_of};
 ghost use Rattle.shadow_node.specs.Falls.{forest_at};
+ghost use Rattle.shadow_node.specs.Forest.{depth_of};
 ghost use Rattle.shadow_node.specs.Limits.{IsForestWithin};
 ghost use Rattle.shadow_node.specs.Sound.{FitsLeaf};
-ghost use Rattle.tree_settle.specs.Limits.{IsSizeInRange};
+ghost use Rattle.tree_settle.specs.Along.{IsSettledBut, IsTreeSettledBut};
+ghost use Rattle.tree_settle.specs.Limits.{AreFramesInBounds, IsForestInLimits, IsSizeInRange};
+ghost use Rattle.tree_settle.specs.Walk.{fields_in};
 
-use crate::settle;
+use crate::along::way_under;
+use crate::node;
+use crate::{SizeChange, settle, settle_along};
 use native_state::{Family, FamilyTable, StateCell};
 use prop_table::{Label, NodeProps, node_table, rows};
 use shadow_frame::{Point, Rect, Size};
@@ -131,9 +137,140 @@ fn settled(
     requires low { pos 0 ≤ℤ width }
     requires high { width ≤ℤ pos 1000000 }
     requires within { IsForestWithin (contents_of forest.now) }
-    ensures { IfOk result (λ settled. IsForestWithin (contents_of settled)) }
+    ensures { IfOk result IsForestInLimits }
 {
     settle(alloc, made, forest, surface(width), families)
+}
+
+/// The settled forest with another top node: of that width, and with all else as it was.
+fn with_width(
+    alloc: Global,
+    made: &mut Made,
+    forest: &Forest,
+    width: i64,
+) -> Result<Forest, AllocError>
+    requires depth { depth_of forest.now ≤ 48 }
+    requires frames { AreFramesInBounds forest.now }
+    ensures depth { IfOk result (λ changed. depth_of changed ≤ 48) }
+    ensures frames { IfOk result AreFramesInBounds }
+{
+    let [top] = forest.nodes() else {
+        return forest.share();
+    };
+    let parts = Parts {
+        props: set(top.props(), rows::WIDTH, width),
+        ..top.with_children(top.children().share()?)?
+    };
+    let mut all = Vec::new(alloc);
+    all.push(ShadowNode::make(alloc, made, parts)?)?;
+    Forest::of(alloc, all)
+}
+
+/// Whether a size is one of a surface.
+fn is_in_range(size: Size) -> bool
+    ensures { result ≡ true → IsSizeInRange size }
+{
+    (0..=1_000_000).contains(&size.width) && (0..=1_000_000).contains(&size.height)
+}
+
+/// Whether a node has its state and its frame, in a parent of that size.
+fn has_own(node: &ShadowNode, parent: Size, families: &FamilyTable) -> bool
+    requires { IsSizeInRange parent }
+    ensures { Decides result (node.now.fields ≡ fields_in parent (cell_in families.now) node.now.fields.fields) }
+{
+    let state = node::state_in(families, node);
+    let frame = node::frame_in(node, parent);
+    node::stays(node, state, frame, &None)
+}
+
+/// Whether a node is on the way, or else has its state and its frame.
+fn is_right(is_on_way: bool, node: &ShadowNode, parent: Size, families: &FamilyTable) -> bool
+    ensures { result ≡ true → is_on_way ≡ false → node.now.fields ≡ fields_in parent (cell_in families.now) node.now.fields.fields }
+{
+    is_on_way || (is_in_range(parent) && has_own(node, parent, families))
+}
+
+/// Whether a node is settled with all below it, but for the nodes on a way.
+#[cycle(settled_but)]
+fn is_tree_settled_but(
+    node: &ShadowNode,
+    parent: Size,
+    families: &FamilyTable,
+    way: &[u32],
+) -> bool
+    ensures { result ≡ true → IsTreeSettledBut parent (cell_in families.now) way.now node.now }
+{
+    let (is_on_way, below) = way_under(way, node);
+    if !is_right(is_on_way, node, parent, families) {
+        return false;
+    }
+    is_settled_but(node.children(), node.frame().size, families, below)
+}
+
+/// Whether each node of a forest is settled, but for the nodes on a way.
+#[cycle(settled_but)]
+fn is_settled_but(forest: &Forest, parent: Size, families: &FamilyTable, way: &[u32]) -> bool
+    ensures { result ≡ true → IsSettledBut parent (cell_in families.now) way.now forest.now }
+{
+    for node in forest.nodes() {
+        if !is_tree_settled_but(node, parent, families, way) {
+            return false;
+        }
+    }
+    true
+}
+
+/// Whether the four nodes have the same states and frames in both.
+fn are_alike(a: &Forest, b: &Forest) -> bool {
+    for tag in [1, 2, 3, 4] {
+        if state_in(a, tag) != state_in(b, tag) || frame_of(a, tag) != frame_of(b, tag) {
+            return false;
+        }
+    }
+    true
+}
+
+/// The tags that settling along a way gives, where it leaves and counts what settling all does.
+fn tags_along(
+    alloc: Global,
+    made: &mut Made,
+    forest: &Forest,
+    size: SizeChange,
+    families: &FamilyTable,
+    way: &[u32],
+) -> Result<Option<Vec<u32>>, AllocError>
+    requires size { IsSizeInRange size.after }
+    requires depth { depth_of forest.now ≤ 48 }
+    requires frames { AreFramesInBounds forest.now }
+{
+    if !is_settled_but(forest, size.before, families, way) {
+        return Ok(None);
+    }
+    let start = made.count();
+    let whole = settle(alloc, made, forest, size.after, families)?;
+    let all = made.count().saturating_sub(start);
+    let start = made.count();
+    let mut tags = Vec::new(alloc);
+    let settled = settle_along(alloc, made, &mut tags, forest, size, families, way)?;
+    let along = made.count().saturating_sub(start);
+    if along == all && are_alike(&settled, &whole) {
+        Ok(Some(tags))
+    } else {
+        Ok(None)
+    }
+}
+
+/// Whether the tags are there, and these.
+fn are_these(tags: &Option<Vec<u32>>, wanted: &[u32]) -> bool {
+    match tags {
+        Some(tags) => tags.as_slice() == wanted,
+        None => false,
+    }
+}
+
+/// The frame of the node of that tag.
+fn frame_of(forest: &Forest, tag: u32) -> Option<Rect> {
+    find(forest, tag).map(|node| node.frame())
 }
 
 /// The width of the node of that tag.
@@ -182,5 +319,39 @@ fn what_changes_is_made_anew_and_all_else_is_shared(rt: HostRuntime) -> Result<(
         assert_eq!(rt; width_of(&wider, tag), Some(width), "{tag}");
     }
     assert!(rt; state_in(&wider, 3) == Some(moved));
+    Ok(())
+}
+
+#[test]
+fn a_way_is_settled_as_the_whole_is(rt: HostRuntime) -> Result<(), Fail> {
+    let mut made = Made::start(&rt);
+    let forest = four_nodes(rt.alloc(), &mut made)?;
+    let none = FamilyTable::empty(rt.alloc())?;
+    let was = settled(rt.alloc(), &mut made, &forest, 320, &none)?;
+    let narrow = with_width(rt.alloc(), &mut made, &was, 200)?;
+    let moved = Family {
+        kind: 4,
+        cell: StateCell {
+            count: 1,
+            point: Point { x: 5, y: 6 },
+        },
+    };
+    let families = none.with(rt.alloc(), &mut made, 3, moved)?;
+    let same = SizeChange {
+        before: surface(320),
+        after: surface(320),
+    };
+    let wider = SizeChange {
+        before: surface(320),
+        after: surface(400),
+    };
+    let at_leaf = tags_along(rt.alloc(), &mut made, &was, same, &families, &[1, 2, 3])?;
+    assert!(rt; are_these(&at_leaf, &[3, 2, 1]), "the state of a leaf");
+    let at_top = tags_along(rt.alloc(), &mut made, &narrow, same, &none, &[1])?;
+    assert!(rt; are_these(&at_top, &[4, 1]), "the size of a node");
+    let around = tags_along(rt.alloc(), &mut made, &was, wider, &none, &[])?;
+    assert!(rt; are_these(&around, &[4, 1]), "the size of the surface");
+    let nowhere = tags_along(rt.alloc(), &mut made, &was, same, &none, &[1, 4])?;
+    assert!(rt; are_these(&nowhere, &[]), "a way on which nothing changes");
     Ok(())
 }

@@ -58,7 +58,7 @@ pub(crate) fn forest_or_shared(new: Option<Forest>, forest: &Forest) -> Result<F
 }
 
 /// Adds what a node became to the list of new nodes, which begins at the first change.
-fn push_settled(
+pub(crate) fn push_settled(
     all: &mut Vec<NodeRef>,
     before: &[NodeRef],
     node: &NodeRef,
