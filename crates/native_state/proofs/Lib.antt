@@ -1,9 +1,2 @@
 pub mod Clamps
-pub mod Counts
-pub mod Each
-pub mod Rising
-pub mod Joined
-pub mod Merged
-pub mod Parts
-pub mod Sorted
 pub mod Same

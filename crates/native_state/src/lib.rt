@@ -6,7 +6,6 @@ ghost use Rattle.native_state.specs.State as state;
 ghost use Rattle.native_state.specs.State.{applied, clamped};
 
 mod made;
-mod page;
 mod table;
 #[cfg(test)]
 mod tests;

@@ -1,26 +1,24 @@
 //! The families of a surface.
 
-ghost use Rattle.std.specs.Prelude.{◌≡◌, ◌+◌, ◌*◌, ◌≤◌, ◌^◌, length, IfOk, OnOk};
+ghost use Rattle.std.specs.Prelude.{◌≡◌, ◌+◌, ◌*◌, ◌≤◌, length, IfOk, OnOk};
 ghost use Rattle.std.specs.FinMap as map;
-ghost use Rattle.native_state.specs.Families.{TagsDiffer, all_added, cell_in};
 ghost use Rattle.counts.specs.Raised.{raised};
-ghost use Rattle.native_state.specs.Pages.{AreFew, ArePages, joined};
-ghost use Rattle.native_state.specs.Rising.{AreBelow, IsRising};
+ghost use Rattle.page_map.specs.Entries.{TagsDiffer, all_added};
+ghost use Rattle.page_map.specs.Rising.{IsRising};
+ghost use Rattle.native_state.specs.Families.{cell_in};
 
 use crate::made::Made;
-use crate::page::{PageRef, count_of, family_of, pages_with, parted};
 use crate::{Family, StateCell};
+use page_map::{PageMap, Share};
 use std::alloc::{AllocError, Global};
 use std::marker::Model;
-use std::sync::Arc;
 
 /// The families of a surface: a finite map from tag to family.
 ///
-/// It is a shared list of shared pages, so a change copies one page and the list.
+/// It is a map in shared pages, so a change copies one page and the list of pages.
 #[derive(Drop)]
 pub struct FamilyTable {
-    pages: Arc<Vec<PageRef>>,
-    count: usize,
+    families: PageMap<Family>,
 }
 
 impl Model for FamilyTable {
@@ -34,21 +32,22 @@ impl Model for FamilyTable {
 
     ghost coded = { map.code coded_ℕ (family.the_row).coded };
 
-    ghost use Rattle.native_state.specs.Pages.{IsTable, joined};
+    ghost view = { λ table. table.families };
+}
 
-    ghost view = { λ table. map.from_sorted (joined table.pages.value.items) };
-
-    ghost invariant = { λ table. IsTable table.pages.value.items table.count };
+impl Share for Family {
+    fn share(&self) -> Result<Family, AllocError> {
+        Ok(*self)
+    }
 }
 
 impl FamilyTable {
     /// No family.
-    pub fn empty(alloc: Global) -> Result<FamilyTable, AllocError>
+    pub fn empty(_alloc: Global) -> Result<FamilyTable, AllocError>
         ensures { IfOk result (λ table. table ≡ map.empty) }
     {
         Ok(FamilyTable {
-            pages: Arc::new(alloc, Vec::new(alloc))?,
-            count: 0,
+            families: PageMap::empty(),
         })
     }
 
@@ -56,8 +55,7 @@ impl FamilyTable {
     pub fn get(&self, tag: u32) -> Option<Family>
         ensures { result ≡ map.get self.now tag }
     {
-        let (_, here, _) = parted(&self.pages, tag);
-        family_of(here, tag)
+        self.families.get(tag).copied()
     }
 
     /// The cell of a tag's family; a tag without a family has one that never changed. It takes no
@@ -75,7 +73,7 @@ impl FamilyTable {
     pub fn len(&self) -> usize
         ensures { result ≡ map.len self.now }
     {
-        self.count
+        self.families.len()
     }
 
     /// How many pages there are, of which each of two or more holds 32 to 64 families: at most 128
@@ -83,7 +81,7 @@ impl FamilyTable {
     pub fn pages(&self) -> usize
         ensures { 32 * result ≤ map.len self.now + 31 }
     {
-        self.pages.len()
+        self.families.pages()
     }
 
     /// The same map, shared.
@@ -91,8 +89,7 @@ impl FamilyTable {
         ensures { IfOk result (λ table. table ≡ self.now) }
     {
         Ok(FamilyTable {
-            pages: Arc::try_clone(&self.pages)?,
-            count: self.count,
+            families: self.families.share()?,
         })
     }
 
@@ -113,7 +110,8 @@ impl FamilyTable {
         ensures at_most { made.new.families ≤ made.old.families + 65 }
         ensures nodes { made.new.nodes ≡ made.old.nodes }
     {
-        self.with_rising(alloc, made, &[(tag, family)])
+        let new = Vec::from_slice(alloc, &[(tag, family)])?;
+        self.with_rising(alloc, made, new)
     }
 
     /// The map with each family of the list set at its tag.
@@ -134,41 +132,25 @@ impl FamilyTable {
     {
         let mut new = Vec::from_slice(alloc, list)?;
         new.sort_by_key(|entry| entry.0)?;
-        self.with_rising(alloc, made, &new)
-    }
-
-    /// The table of these pages.
-    fn of(alloc: Global, pages: Vec<PageRef>) -> Result<FamilyTable, AllocError>
-        requires pages { ArePages pages.items }
-        requires few { AreFew pages.items }
-        requires rises { IsRising (joined pages.items) }
-        requires in_range { AreBelow (2 ^ 32) (joined pages.items) }
-        ensures { IfOk result (λ table. table ≡ map.from_sorted (joined pages.items)) }
-    {
-        let count = count_of(&pages);
-        Ok(FamilyTable {
-            pages: Arc::new(alloc, pages)?,
-            count,
-        })
+        self.with_rising(alloc, made, new)
     }
 
     /// The map with each family of a list in the order of their tags.
-    ///
-    /// Each page that one of them belongs in is made anew once, and all others are shared.
     fn with_rising(
         &self,
         alloc: Global,
         made: &mut Made,
-        new: &[(u32, Family)],
+        new: Vec<(u32, Family)>,
     ) -> Result<FamilyTable, AllocError>
-        requires { IsRising new.now }
-        ensures map { IfOk result (λ table. table ≡ all_added self.now new.now) }
-        ensures counted { OnOk result (raised made.old.families (length new.now) ≤ made.new.families) }
+        requires { IsRising new.items }
+        ensures map { IfOk result (λ table. table ≡ all_added self.now new.items) }
+        ensures counted { OnOk result (raised made.old.families (length new.items) ≤ made.new.families) }
         ensures never_falls { made.old.families ≤ made.new.families }
-        ensures at_most { made.new.families ≤ made.old.families + 65 * length new.now }
+        ensures at_most { made.new.families ≤ made.old.families + 65 * length new.items }
         ensures nodes { made.new.nodes ≡ made.old.nodes }
     {
-        let pages = pages_with(alloc, made, &self.pages, new)?;
-        FamilyTable::of(alloc, pages)
+        let (families, count) = self.families.with_all(alloc, new)?;
+        made.families_made(count);
+        Ok(FamilyTable { families })
     }
 }

@@ -3,4 +3,4 @@ pub mod Counted
 pub mod Maps
 pub mod Depths
 pub mod Found
-pub mod Reordered
+pub mod OneByOne

@@ -1,7 +1,9 @@
 pub mod Fronts
 pub mod Finds
+pub mod Tagged
 pub mod Children
 pub mod Repeats
+pub mod Differ
 pub mod Within
 pub mod Building
 pub mod Results

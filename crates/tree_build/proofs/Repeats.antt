@@ -1,5 +1,5 @@
 -- Tags that repeat.
-use Rattle.std.proofs.Common.{◌≡◌, ℕ, ◌<◌, Bool, true, false, cond, List, [], ◌∷◌, ◌++◌, length, get_or, drop, ◌+◌, refl, ap, sym, ◌∙◌, append_assoc, append-nil, arith}
+use Rattle.std.proofs.Common.{◌≡◌, ℕ, ◌<◌, ◌≤◌, Bool, true, false, cond, List, [], ◌∷◌, ◌++◌, length, get_or, drop, ◌+◌, refl, ap, sym, ◌∙◌, append_assoc, append-nil, length-append, arith}
 use Rattle.std.specs.Prelude.{Option, Some, None, nat_eq, not, ◌||◌}
 use Rattle.std.specs.Option.{option_or}
 use Rattle.std.specs.List.{list_any}
@@ -11,26 +11,63 @@ use Rattle.std.specs.BTreeSet.{insert_key}
 use Rattle.std.proofs.lemmas.Bool.{eq-eqb, ne_eqb, not-true, not-false}
 use Rattle.std.proofs.lemmas.Cmp.{ranked}
 use Rattle.std.proofs.lemmas.List.{map-append}
-use Rattle.shadow_node.specs.Forest.{PlainForest, node, preorder}
+use Rattle.shadow_node.specs.Forest.{PlainForest, none, node, preorder, node_count}
 use Rattle.shadow_node.specs.Fields.{NodeFields, SettledFields, contents_of, tags_of}
 use Rattle.shadow_node.specs.Falls.{Shared, forest_at}
-use Rattle.shadow_node.proofs.Trees.{forest_at-drop}
+use Rattle.shadow_node.proofs.Trees.{forest_at-drop, forest_at-drop_end}
 use Rattle.tree_build.specs.Refusals.{repeated_after, repeated}
 
--- the tags of a node, its children and its later siblings, and some more
-tags_of-node : (fields : NodeFields) (children siblings : PlainForest NodeFields) (rest : List ℕ)
-    → tags_of (node fields children siblings) ++ rest ≡ fields.tag ∷ tags_of children ++ (tags_of siblings ++ rest)
-tags_of-node fields children siblings rest =
-    ap (λ tags. fields.tag ∷ tags ++ rest) (map-append (λ (f : NodeFields). f.tag) (preorder children) (preorder siblings))
-    ∙ ap (λ tags. fields.tag ∷ tags) (append_assoc (tags_of children) (tags_of siblings) rest)
+-- the tags of a node, its children and its later siblings
+tags_of-node : (fields : NodeFields) (children siblings : PlainForest NodeFields)
+    → tags_of (node fields children siblings) ≡ fields.tag ∷ tags_of children ++ tags_of siblings
+tags_of-node fields children siblings = ap (λ tags. fields.tag ∷ tags) (map-append (λ (f : NodeFields). f.tag) (preorder children) (preorder siblings))
 
 -- the tags of the nodes from an index on: those of the node there and below it, and those of the later ones
+tags_from : (nodes : List Shared) (i : ℕ) (d : Shared) → i < length nodes → d ≡ get_or nodes i d
+    → tags_of (contents_of (forest_at (drop i nodes)))
+    ≡ d.value.fields.fields.tag ∷ tags_of (contents_of d.value.children) ++ tags_of (contents_of (forest_at (drop (i + 1) nodes)))
+tags_from nodes i d h e =
+    ap (λ forest. tags_of (contents_of forest)) (forest_at-drop nodes i d h e)
+    ∙ tags_of-node d.value.fields.fields (contents_of d.value.children) (contents_of (forest_at (drop (i + 1) nodes)))
+
+-- the same with some more tags behind them
 tags_left : (nodes : List Shared) (i : ℕ) (d : Shared) (rest : List ℕ) → i < length nodes → d ≡ get_or nodes i d
     → tags_of (contents_of (forest_at (drop i nodes))) ++ rest
     ≡ d.value.fields.fields.tag ∷ tags_of (contents_of d.value.children) ++ (tags_of (contents_of (forest_at (drop (i + 1) nodes))) ++ rest)
 tags_left nodes i d rest h e =
-    ap (λ forest. tags_of (contents_of forest) ++ rest) (forest_at-drop nodes i d h e)
-    ∙ tags_of-node d.value.fields.fields (contents_of d.value.children) (contents_of (forest_at (drop (i + 1) nodes))) rest
+    ap (λ tags. tags ++ rest) (tags_from nodes i d h e)
+    ∙ ap (λ tags. d.value.fields.fields.tag ∷ tags) (append_assoc (tags_of (contents_of d.value.children)) (tags_of (contents_of (forest_at (drop (i + 1) nodes)))) rest)
+
+-- a list that has taken in the tags of one more node and of those below it lacks those of the later ones
+pub tags_taken : (nodes : List Shared) (i : ℕ) (d : Shared) (all pushed more : List ℕ) (below : PlainForest SettledFields) → i < length nodes → d ≡ get_or nodes i d
+    → pushed ≡ all ++ d.value.fields.fields.tag ∷ [] → below ≡ d.value.children → more ≡ pushed ++ tags_of (contents_of below)
+    → more ++ tags_of (contents_of (forest_at (drop (i + 1) nodes))) ≡ all ++ tags_of (contents_of (forest_at (drop i nodes)))
+tags_taken nodes i d all pushed more below h e p b m =
+    let tag = d.value.fields.fields.tag in
+    let down = tags_of (contents_of d.value.children) in
+    let later = tags_of (contents_of (forest_at (drop (i + 1) nodes))) in
+    ap (λ tags. tags ++ later) (m ∙ ap (λ tags. tags ++ tags_of (contents_of below)) p ∙ ap (λ forest. (all ++ tag ∷ []) ++ tags_of (contents_of forest)) b)
+    ∙ append_assoc (all ++ tag ∷ []) down later
+    ∙ append_assoc all (tag ∷ []) (down ++ later)
+    ∙ ap (λ tags. all ++ tags) (sym (tags_from nodes i d h e))
+
+-- and nothing is left after the last index
+pub tags_all_taken : (nodes : List Shared) (i : ℕ) (all whole : List ℕ) → length nodes ≤ i
+    → all ++ tags_of (contents_of (forest_at (drop i nodes))) ≡ whole → all ≡ whole
+tags_all_taken nodes i all whole h w =
+    sym (append-nil all) ∙ ap (λ forest. all ++ tags_of (contents_of forest)) (sym (forest_at-drop_end nodes i h)) ∙ w
+
+-- there are as many tags as nodes
+pub length-tags : (forest : PlainForest SettledFields) → length (tags_of (contents_of forest)) ≡ node_count forest
+length-tags none = refl
+length-tags (node settled children siblings) =
+    omega (
+      arith,
+      ap length (tags_of-node settled.fields (contents_of children) (contents_of siblings)),
+      length-append (tags_of (contents_of children)) (tags_of (contents_of siblings)),
+      length-tags children,
+      length-tags siblings,
+    )
 
 -- whether tags repeat earlier ones goes by which tags are among the earlier ones
 repeated_after-congr : (one other tags : List ℕ) → ((tag : ℕ) → list_any (nat_eq tag) one ≡ list_any (nat_eq tag) other)

@@ -1,9 +1,9 @@
 -- Forests that keep the limits.
-use Rattle.std.proofs.Common.{◌≡◌, ℕ, ◌≤◌, ◌<◌, Bool, true, false, cond, List, [], ◌∷◌, refl, ap, sym, ◌∙◌}
+use Rattle.std.proofs.Common.{◌≡◌, ℕ, ◌≤◌, ◌<◌, Bool, true, false, cond, List, [], ◌∷◌, refl, ap, sym, subst, ◌∙◌}
 use Rattle.std.specs.Prelude.{Option, Some, None, nat_eq, nat_lt, option_map, if◌then◌else◌, ◌||◌}
 use Rattle.std.specs.Option.{option_or}
 use Rattle.std.specs.List.{list_any, IsDistinct, AllByRecursion}
-use Rattle.std.proofs.lemmas.Bool.{eq-eqb, ne_eqb, ltb-false, lt-ltb, le-ltb, false≢true}
+use Rattle.std.proofs.lemmas.Bool.{eq-eqb, eqb-true, ne_eqb, ltb-false, lt-ltb, le-ltb, false≢true}
 use Rattle.shadow_node.specs.Forest.{PlainForest, depth_of, node_count}
 use Rattle.shadow_node.specs.Fields.{NodeFields, SettledFields, contents_of, tags_of}
 use Rattle.shadow_node.specs.Limits.{IsForestWithin}
@@ -42,6 +42,32 @@ new_after earlier (tag ∷ tags) h = by (list_any (nat_eq tag) earlier) refl (ne
         → cond b (Some tag) (repeated_after (tag ∷ earlier) tags) ≡ None → AreNew earlier (tag ∷ tags)
     by true e later r = absurd (cc)
     by false e later r = one_more_new earlier tags tag e (later r)
+
+-- no tag differs from itself
+apart_from_itself : (tag : ℕ) (tags : List ℕ) → IsApart tag (tag ∷ tags) → ⊥
+apart_from_itself tag tags h = false≢true (sym h.0 ∙ eq-eqb tag tag refl)
+
+-- behind a new tag, those after it are still new
+later_new : (earlier tags : List ℕ) (tag : ℕ) → AreNew earlier (tag ∷ tags) → AreNew (tag ∷ earlier) tags
+unfolding IsDistinct
+later_new earlier tags tag new = (new.0.1, λ q among. later q (nat_eq q tag) refl among)
+  where
+    later : (q : ℕ) (b : Bool) → nat_eq q tag ≡ b → (b || list_any (nat_eq q) earlier) ≡ true → IsApart q tags
+    later q true e among = subst (λ n. IsApart n tags) (sym (eqb-true q tag e)) new.0.0
+    later q false e among = (new.1 q among).1
+
+-- new tags do not repeat an earlier one
+none_repeats : (earlier tags : List ℕ) → AreNew earlier tags → repeated_after earlier tags ≡ None
+none_repeats earlier [] new = refl
+none_repeats earlier (tag ∷ tags) new = by (list_any (nat_eq tag) earlier) refl (none_repeats (tag ∷ earlier) tags (later_new earlier tags tag new))
+  where
+    by : (b : Bool) → list_any (nat_eq tag) earlier ≡ b → repeated_after (tag ∷ earlier) tags ≡ None → cond b (Some tag) (repeated_after (tag ∷ earlier) tags) ≡ None
+    by true e later = absurd (apart_from_itself tag tags (new.1 tag e))
+    by false e later = later
+
+-- tags that differ do not repeat
+pub differing_unrepeated : (tags : List ℕ) → IsDistinct nat_eq tags → repeated tags ≡ None
+differing_unrepeated tags differ = none_repeats [] tags (differ, λ tag among. absurd (false≢true among))
 
 -- why a forest is refused: by its first repeated tag
 pub refused_twice : (forest : PlainForest SettledFields) (tag : ℕ) → repeated (tags_of (contents_of forest)) ≡ Some tag

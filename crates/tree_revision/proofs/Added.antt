@@ -6,7 +6,7 @@ use Rattle.std.specs.Cmp.{nat_cmp_total}
 use Rattle.std.specs.FinMap.{FinMap, get, insert, len, get-insert, len-insert}
 use Rattle.std.proofs.lemmas.List.{length-map}
 use Rattle.native_state.specs.declared.Family.{Family}
-use Rattle.native_state.specs.Families.{all_added}
+use Rattle.page_map.specs.Entries.{all_added}
 use Rattle.shadow_node.specs.Fields.{NodeFields}
 use Rattle.tree_revision.specs.Prepared.{new_nodes, first_family, families_grown}
 use Rattle.tree_revision.proofs.Counts.{ties-nat_eq}

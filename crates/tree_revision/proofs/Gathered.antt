@@ -11,7 +11,7 @@ use Rattle.std.proofs.lemmas.List.Elements.{filter-append, All-nil, All-cons}
 use Rattle.std.proofs.lemmas.List.Kept.{AllPairs-cons}
 use Rattle.shadow_kinds.specs.Words.{code_of}
 use Rattle.native_state.specs.declared.Family.{Family}
-use Rattle.native_state.specs.Families.{TagsDiffer}
+use Rattle.page_map.specs.Entries.{TagsDiffer}
 use Rattle.shadow_node.specs.Forest.{preorder}
 use Rattle.shadow_node.specs.Fields.{NodeFields, contents_of}
 use Rattle.shadow_node.specs.Falls.{Shared, forest_at}

@@ -11,15 +11,17 @@ use Rattle.native_state.specs.declared.StateCell.{StateCell}
 use Rattle.native_state.specs.declared.StateChange.{StateChange}
 use Rattle.native_state.specs.declared.Family.{Family}
 use Rattle.native_state.specs.State.{start_cell, cell_after, cell_from}
-use Rattle.native_state.specs.Families.{all_added}
+use Rattle.native_state.specs.Families.{cell_in}
+use Rattle.page_map.specs.Entries.{all_added}
 use Rattle.shadow_kinds.specs.declared.Kind.{Kind}
 use Rattle.shadow_node.specs.Fields.{NodeFields}
 use Rattle.tree_revision.specs.Revisions.{PlainFamily, kind_of_family, families_with}
 use Rattle.tree_revision.proofs.Shorthands.{added_to}
 use Rattle.tree_revision.specs.Stands.{family_of}
 use Rattle.tree_revision.specs.Prepared.{new_nodes, first_family, families_grown}
+use Rattle.tree_revision.specs.Steps.{families_changed}
 use Rattle.tree_revision.proofs.Cells.{AreFamilies, StartNew}
-use Rattle.tree_revision.proofs.Counts.{kind_of_family-append, kind_of_family-past, ties-nat_eq, is_new_alike}
+use Rattle.tree_revision.proofs.Counts.{kind_of_family-append, kind_of_family-past, nat_eq-turned, ties-nat_eq, is_new_alike}
 
 -- what a table has at a tag after one more family
 get-insert_at : (table : FinMap nat_cmp Family) (tag : ℕ) (family : Family) (looked : ℕ) → get (insert table tag family) looked ≡ cond (nat_eq tag looked) (Some family) (get table looked)
@@ -40,12 +42,19 @@ changed_here table tag change cell (Some kind) was =
     get-insert_at table tag family tag ∙ ap (λ b. cond b (Some family) (get table tag)) (eq-eqb tag tag refl)
 
 -- and at another one
-changed_elsewhere : (table : FinMap nat_cmp Family) (tag : ℕ) (change : StateChange) (cell : StateCell) (found : Option Kind) (looked : ℕ) → nat_eq tag looked ≡ false
-    → get (changed_table table tag change (option_map (family_of cell) found)) looked ≡ get table looked
-changed_elsewhere table tag change cell None looked other = refl
-changed_elsewhere table tag change cell (Some kind) looked other =
-    let family = family_of (cell_after change cell) kind in
-    get-insert_at table tag family looked ∙ ap (λ b. cond b (Some family) (get table looked)) other
+changed_elsewhere : (table : FinMap nat_cmp Family) (tag : ℕ) (change : StateChange) (found : Option Family) (looked : ℕ) → nat_eq tag looked ≡ false
+    → get (changed_table table tag change found) looked ≡ get table looked
+changed_elsewhere table tag change None looked other = refl
+changed_elsewhere table tag change (Some family) looked other =
+    let changed : Family = record { kind = family.kind; cell = cell_after change family.cell } in
+    get-insert_at table tag changed looked ∙ ap (λ b. cond b (Some changed) (get table looked)) other
+
+-- so the cell of each other tag stays
+pub cell_in-elsewhere : (table : FinMap nat_cmp Family) (tag : ℕ) (change : StateChange) (looked : ℕ) → nat_eq looked tag ≡ false
+    → cell_in table looked ≡ cell_in (families_changed tag change table) looked
+cell_in-elsewhere table tag change looked other =
+    ap (λ found. unwrap_or (option_map (λ family. family.cell) found) start_cell)
+    (sym (changed_elsewhere table tag change (get table tag) looked (nat_eq-turned tag looked ∙ other)))
 
 -- a change of a family's state moves its cell, and no other
 pub families-changed : (table : FinMap nat_cmp Family) (families : List PlainFamily) (newest : ℕ → StateCell) (tag : ℕ) (change : StateChange) → AreFamilies table families newest
@@ -61,7 +70,7 @@ families-changed table families newest tag change are = λ looked.
     go looked true e =
         subst (λ t. changed t ≡ option_map (family_of (cell_after change (newest t))) (kind_of_family families t)) (eqb-true tag looked e)
         (changed_here table tag change (newest tag) (kind_of_family families tag) (are tag))
-    go looked false e = changed_elsewhere table tag change (newest tag) (kind_of_family families tag) looked e ∙ are looked
+    go looked false e = changed_elsewhere table tag change (option_map (family_of (newest tag)) (kind_of_family families tag)) looked e ∙ are looked
 
 -- ---- after a complete
 

@@ -23,3 +23,6 @@ pub mod Alike
 pub mod Upward
 pub mod Kept
 pub mod Added
+pub mod Unsettled
+pub mod Along
+pub mod Renewed

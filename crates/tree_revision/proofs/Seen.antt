@@ -97,7 +97,7 @@ none_is None e = refl
 none_is (Some x) e = absurd cc
 
 -- the second of two answers, where the first is none
-second_of : {A : Type 0} (a b : Option A) → is_some a ≡ false → option_or a b ≡ b
+pub second_of : {A : Type 0} (a b : Option A) → is_some a ≡ false → option_or a b ≡ b
 second_of a b e = ap (λ a. option_or a b) (none_is a e)
 
 -- the first node is seen

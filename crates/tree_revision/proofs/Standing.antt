@@ -66,6 +66,7 @@ pub opened_limits : (size : Size) → IsSizeInRange size → IsWithinLimits (ope
 opened_limits size in_range = record {
   size = in_range;
   forest = record { within = record { differ = distinct_none; depth = omega arith; count = omega arith }; frames = tt };
+  settled = refl;
   counts = λ tag family found. let both : None ≡ Some family = sym (map.get-empty nat_cmp tag) ∙ found in absurd cc;
   stamps = no_tags;
   first = λ _. refl;

@@ -36,7 +36,7 @@ pub upward_differ : (forest : PlainForest SettledFields) → IsDistinct nat_eq (
 upward_differ forest differ = IsDistinct-IsPermutation nat_eq nat_eq-turned (all_tags forest) (tags_upward forest) (permuted forest) differ
 
 -- one of two answers is there
-some_or : {A : Type 0} (a b : Option A) → is_some (option_or a b) ≡ (is_some a || is_some b)
+pub some_or : {A : Type 0} (a b : Option A) → is_some (option_or a b) ≡ (is_some a || is_some b)
 some_or None b = refl
 some_or (Some x) b = refl
 

@@ -8,7 +8,7 @@ use Rattle.std.specs.FinMap.{FinMap, get, insert, get-insert}
 use Rattle.native_state.specs.declared.StateChange.{StateChange}
 use Rattle.native_state.specs.declared.Family.{Family}
 use Rattle.native_state.specs.State.{cell_after}
-use Rattle.native_state.specs.Families.{all_added}
+use Rattle.page_map.specs.Entries.{all_added}
 use Rattle.shadow_node.specs.Fields.{NodeFields}
 use Rattle.tree_revision.specs.Prepared.{first_family}
 use Rattle.tree_revision.specs.Steps.{AreCountsWithin, families_changed}

@@ -6,7 +6,8 @@ use Rattle.std.specs.FinMap.{FinMap, get, insert, len}
 use Rattle.shadow_frame.specs.declared.Size.{Size}
 use Rattle.native_state.specs.declared.Family.{Family}
 use Rattle.native_state.specs.State.{start_cell, cell_after}
-use Rattle.native_state.specs.Families.{all_added, cell_in}
+use Rattle.page_map.specs.Entries.{all_added}
+use Rattle.native_state.specs.Families.{cell_in}
 use Rattle.shadow_kinds.specs.Words.{code_of}
 use Rattle.shadow_node.specs.Forest.{PlainForest, none, preorder}
 use Rattle.shadow_node.specs.Fields.{NodeFields, SettledFields, contents_of}

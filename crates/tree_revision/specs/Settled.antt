@@ -5,10 +5,12 @@ use Rattle.std.specs.Ordering.{nat_cmp}
 use Rattle.std.specs.FinMap as map
 use Rattle.shadow_frame.specs.declared.Size.{Size}
 use Rattle.shadow_frame.specs.contracts.Size as size
+use Rattle.native_state.specs.Families.{cell_in}
 use Rattle.native_state.specs.declared.Family.{Family}
 use Rattle.native_state.specs.contracts.Family as family
 use Rattle.shadow_node.specs.Forest.{PlainForest, none}
-use Rattle.shadow_node.specs.Fields.{SettledFields}
+use Rattle.shadow_node.specs.Fields.{SettledFields, contents_of}
+use Rattle.shadow_node.specs.Frames.{settled_forest}
 use Rattle.shadow_node.specs.Code.{coded_forest, coded_settled}
 use Rattle.shadow_node.specs.Stamps.{StampMap}
 use Rattle.tree_settle.specs.Limits.{IsSizeInRange, IsForestInLimits}
@@ -31,10 +33,11 @@ pub record KeptRevision : Type 0 where
   pub newest : SettledRevision
   pub mountable : SettledRevision
 
--- a revision keeps the limits of size and forest, no family changed more often than there were commits, its stamps are those of its tags, and number 0 is the surface before its first commit
+-- a revision keeps the limits of size and forest, its forest is settled, no family changed more often than there were commits, its stamps are those of its tags, and number 0 is the surface before its first commit
 pub record IsWithinLimits (revision : SettledRevision) : Type 0 where
   pub size : IsSizeInRange revision.size
   pub forest : IsForestInLimits revision.forest
+  pub settled : revision.forest ≡ settled_forest revision.size (cell_in revision.families) (contents_of revision.forest)
   pub counts : (tag : ℕ) (family : Family) → map.get revision.families tag ≡ Some family → family.cell.count ≤ revision.number
   pub stamps : HasTagsOf revision.stamps revision.forest
   pub first : revision.number ≡ 0 → revision ≡ opened revision.size

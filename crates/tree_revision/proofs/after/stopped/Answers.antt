@@ -1,4 +1,4 @@
-use Rattle.std.proofs.Common.{◌+◌, sym, subst, arith}
+use Rattle.std.proofs.Common.{◌+◌, refl, sym, subst, arith}
 use Rattle.shadow_node.specs.Forest.{PlainForest}
 use Rattle.shadow_node.specs.Fields.{SettledFields}
 use Rattle.shadow_node.specs.Stamps.{StampMap}
@@ -16,6 +16,7 @@ invariant_of-result c =
     record {
       size = c.front.invariant.size;
       forest = subst IsForestInLimits (sym c.empty.ensures) (opened_limits c.front.inside.size c.front.invariant.size).forest;
+      settled = rw c.empty.ensures refl;
       counts = subst (AreCountsWithin (number + 1)) (sym c.in_ok-share.ensures) (counts_more number (number + 1) c.front.inside.families (omega arith) c.front.invariant.counts);
       stamps = subst (λ (t : StampMap × PlainForest SettledFields). HasTagsOf t.0 t.1) (λ i. (sym c.none.ensures i, sym c.empty.ensures i)) no_tags;
       first = λ zero. let never : ⊥ = omega arith in absurd never;

@@ -1,6 +1,6 @@
 use Rattle.std.proofs.Common.{◌++◌, length, arith, sym, ap, subst, ◌∙◌}
 use Rattle.std.specs.FinMap.{len}
-use Rattle.native_state.specs.Families.{TagsDiffer, all_added}
+use Rattle.page_map.specs.Entries.{TagsDiffer, all_added}
 use Rattle.shadow_node.specs.Forest.{preorder}
 use Rattle.shadow_node.specs.Fields.{contents_of}
 use Rattle.tree_revision.specs.Steps.{first_families}
