@@ -34,12 +34,12 @@ abbrev pub is_among : ℕ → List ℕ → Bool
 is_among tag tags = list_any (λ other. nat_eq other tag) tags
 
 -- neither of two is true
-neither : (a b : Bool) → (a || b) ≡ false → (a ≡ false) × (b ≡ false)
+pub neither : (a b : Bool) → (a || b) ≡ false → (a ≡ false) × (b ≡ false)
 neither true b e = absurd (false≢true (sym e))
 neither false b e = (refl, e)
 
 -- the second of two is true where the first is not
-second : (a b : Bool) → a ≡ false → (a || b) ≡ true → b ≡ true
+pub second : (a b : Bool) → a ≡ false → (a || b) ≡ true → b ≡ true
 second true b a e = absurd (false≢true (sym a))
 second false b a e = e
 
@@ -63,12 +63,12 @@ none_below : (n : ℕ) → nat_lt 0 n ≡ false → n ≡ 0
 none_below n e = grind (arith, nat_tests)
 
 -- the first of two answers, where it is there
-first_of : {A : Type 0} (a b : Option A) → is_some a ≡ true → option_or a b ≡ a
+pub first_of : {A : Type 0} (a b : Option A) → is_some a ≡ true → option_or a b ≡ a
 first_of None b e = absurd (false≢true e)
 first_of (Some x) b e = refl
 
 -- a tag that is found after a tree is not found in it
-not_in_first : (tag : ℕ) (k s : PlainForest SettledFields) → IsDistinct nat_eq (all_tags k ++ all_tags s) → is_some (first_settled tag s) ≡ true
+pub not_in_first : (tag : ℕ) (k s : PlainForest SettledFields) → IsDistinct nat_eq (all_tags k ++ all_tags s) → is_some (first_settled tag s) ≡ true
     → is_some (first_settled tag k) ≡ false
 not_in_first tag k s differ after = elim (is_some (first_settled tag k)) as (λ b. is_some (first_settled tag k) ≡ b → b ≡ false) [
   | true ↦ λ there. absurd (false≢true (sym (none_found tag s (found_apart tag k (all_tags s) there differ)) ∙ after))
