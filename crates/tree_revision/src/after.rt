@@ -29,7 +29,7 @@ use shadow_kinds::has_state;
 use shadow_node::{Forest, Made, NodeEdit, Stamps, find, path_to};
 use std::alloc::{AllocError, Global};
 use tree_build::{ScriptNode, build};
-use tree_settle::{settle, settle_along};
+use tree_settle::{SizeChange, settle, settle_along};
 
 /// The content after a front, of that size, with those families and with that forest, which is
 /// settled.
@@ -80,8 +80,19 @@ fn settled_along(
     ensures made { IfOk result (λ next. made.new ≡ nodes_more made.old (changes_in next.size (cell_in next.families) front.now.forest)) }
 {
     let mut renewed = Vec::new(alloc);
-    let sizes = (front.size, size);
-    let forest = settle_along(alloc, made, &mut renewed, &front.forest, sizes, &families, way)?;
+    let sizes = SizeChange {
+        before: front.size,
+        after: size,
+    };
+    let forest = settle_along(
+        alloc,
+        made,
+        &mut renewed,
+        &front.forest,
+        sizes,
+        &families,
+        way,
+    )?;
     let number = front.number + 1;
     let stamps = front.stamps.with_each(alloc, &renewed, number)?;
     Ok(Content {
