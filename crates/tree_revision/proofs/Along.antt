@@ -1,7 +1,8 @@
 -- A settled forest is settled but for the way to a node whose family's state changes.
 use Rattle.std.proofs.Common.{◌≡◌, ◌≢◌, ℕ, List, [], ◌∷◌, ◌++◌, Bool, true, false, cond, Option, Some, None, is_some, nat_eq, refl, ap, sym, ◌∙◌, subst}
 use Rattle.std.specs.List.{AllByRecursion, IsDistinct}
-use Rattle.std.specs.Option.{option_or}
+use Rattle.std.specs.Prelude.{unwrap_or}
+use Rattle.std.specs.Option.{option_map, option_or}
 use Rattle.std.proofs.lemmas.Bool.{eq-eqb, ne_eqb, eqb-true, eqb-false, false≢true}
 use Rattle.shadow_frame.specs.declared.Size.{Size}
 use Rattle.native_state.specs.declared.StateCell.{StateCell}
@@ -48,6 +49,12 @@ way_found tag (node f k s) =
     of_two None b (Some y) d e f = absurd (false≢true e)
     of_two (Some x) b None d e f = absurd (false≢true (sym e))
     of_two (Some x) b (Some y) d e f = refl
+
+-- the way that is found, or else another one, is the way to a tag that is there
+pub way_taken : {V : Type 0} (items : V → List ℕ) (found : Option V) (otherwise : V) (tag : ℕ) (forest : PlainForest SettledFields) → option_map items found ≡ way_to tag forest
+    → is_some (first_settled tag forest) ≡ true → way_to tag forest ≡ Some (items (unwrap_or found otherwise))
+way_taken items None otherwise tag forest is there = absurd (false≢true (ap is_some is ∙ way_found tag forest ∙ there))
+way_taken items (Some way) otherwise tag forest is there = sym is
 
 module _ (newest later : ℕ → StateCell) (tag : ℕ) (others : (q : ℕ) → nat_eq q tag ≡ false → newest q ≡ later q) where
   -- a forest without a node of a tag is settled still once only that tag's state is another

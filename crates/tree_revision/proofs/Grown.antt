@@ -11,8 +11,8 @@ use Rattle.native_state.specs.declared.StateCell.{StateCell}
 use Rattle.native_state.specs.declared.StateChange.{StateChange}
 use Rattle.native_state.specs.declared.Family.{Family}
 use Rattle.native_state.specs.State.{start_cell, cell_after, cell_from}
-use Rattle.page_map.specs.Entries.{all_added}
 use Rattle.native_state.specs.Families.{cell_in}
+use Rattle.page_map.specs.Entries.{all_added}
 use Rattle.shadow_kinds.specs.declared.Kind.{Kind}
 use Rattle.shadow_node.specs.Fields.{NodeFields}
 use Rattle.tree_revision.specs.Revisions.{PlainFamily, kind_of_family, families_with}

@@ -26,3 +26,5 @@ pub mod Added
 pub mod Unsettled
 pub mod Along
 pub mod Renewed
+pub mod EditedWay
+pub mod EditedStamps

@@ -34,12 +34,12 @@ abbrev pub is_among : ℕ → List ℕ → Bool
 is_among tag tags = list_any (λ other. nat_eq other tag) tags
 
 -- neither of two is true
-neither : (a b : Bool) → (a || b) ≡ false → (a ≡ false) × (b ≡ false)
+pub neither : (a b : Bool) → (a || b) ≡ false → (a ≡ false) × (b ≡ false)
 neither true b e = absurd (false≢true (sym e))
 neither false b e = (refl, e)
 
 -- the second of two is true where the first is not
-second : (a b : Bool) → a ≡ false → (a || b) ≡ true → b ≡ true
+pub second : (a b : Bool) → a ≡ false → (a || b) ≡ true → b ≡ true
 second true b a e = absurd (false≢true (sym a))
 second false b a e = e
 
@@ -63,12 +63,12 @@ none_below : (n : ℕ) → nat_lt 0 n ≡ false → n ≡ 0
 none_below n e = grind (arith, nat_tests)
 
 -- the first of two answers, where it is there
-first_of : {A : Type 0} (a b : Option A) → is_some a ≡ true → option_or a b ≡ a
+pub first_of : {A : Type 0} (a b : Option A) → is_some a ≡ true → option_or a b ≡ a
 first_of None b e = absurd (false≢true e)
 first_of (Some x) b e = refl
 
 -- a tag that is found after a tree is not found in it
-not_in_first : (tag : ℕ) (k s : PlainForest SettledFields) → IsDistinct nat_eq (all_tags k ++ all_tags s) → is_some (first_settled tag s) ≡ true
+pub not_in_first : (tag : ℕ) (k s : PlainForest SettledFields) → IsDistinct nat_eq (all_tags k ++ all_tags s) → is_some (first_settled tag s) ≡ true
     → is_some (first_settled tag k) ≡ false
 not_in_first tag k s differ after = elim (is_some (first_settled tag k)) as (λ b. is_some (first_settled tag k) ≡ b → b ≡ false) [
   | true ↦ λ there. absurd (false≢true (sym (none_found tag s (found_apart tag k (all_tags s) there differ)) ∙ after))
@@ -212,29 +212,35 @@ get-all_stamped stamps number tag (first ∷ tags) =
     either false false = refl
 
 -- once a forest whose tags differ is settled, the stamps with the new number at each tag whose node changes are those after that
-pub stamps_renewed : (size : Size) (newest : ℕ → StateCell) (forest : PlainForest SettledFields) (before : StampMap) (number : ℕ) → IsDistinct nat_eq (all_tags forest)
-    → HasTagsOf before forest
-    → AreStampsAfter forest (settled_forest size newest (contents_of forest)) before number (all_stamped before number (changed_tags size newest forest))
-stamps_renewed size newest forest before number differ mounted = record {
-  mounted = λ tag. is_there tag ∙ sym (found_alike newest tag size forest) ∙ ap (λ new. is_some (first_settled tag new)) (sym (settled_below-in size newest [] (contents_of forest)));
-  each = λ tag stamp found. is_stamp tag stamp (sym (get-all_stamped before number tag (changed_tags size newest forest)) ∙ found);
-}
+pub stamps_renewed : (size : Size) (newest : ℕ → StateCell) (forest new : PlainForest SettledFields) (before after : StampMap) (number : ℕ) (tags : List ℕ)
+    → IsDistinct nat_eq (all_tags forest) → HasTagsOf before forest → new ≡ settled_forest size newest (contents_of forest)
+    → tags ≡ changed_tags size newest forest → after ≡ all_stamped before number tags → AreStampsAfter forest new before number after
+stamps_renewed size newest forest new before after number tags differ mounted new_is tags_are after_is =
+    subst (λ (t : PlainForest SettledFields × StampMap). AreStampsAfter forest t.0 before number t.1)
+    (λ i. (sym new_is i, sym (after_is ∙ ap (all_stamped before number) tags_are) i)) are
   where
-    is_there : (tag : ℕ) → is_some (get (all_stamped before number (changed_tags size newest forest)) tag) ≡ is_some (first_settled tag forest)
-    is_there tag = ap is_some (get-all_stamped before number tag (changed_tags size newest forest))
-        ∙ elim (is_among tag (changed_tags size newest forest)) as (λ b. is_among tag (changed_tags size newest forest) ≡ b → is_some (cond b (Some number) (get before tag)) ≡ is_some (first_settled tag forest)) [
-          | true ↦ λ among. sym (changed_found newest tag size forest among)
-          | false ↦ λ _. mounted tag
-        ] refl
+    changed : ℕ → Bool
+    changed tag = is_among tag (changed_tags size newest forest)
 
-    is_stamp : (tag stamp : ℕ) → cond (is_among tag (changed_tags size newest forest)) (Some number) (get before tag) ≡ Some stamp
-        → IsStampAfter forest (settled_forest size newest (contents_of forest)) before number tag stamp
-    is_stamp tag stamp = elim (is_among tag (changed_tags size newest forest)) as (λ b. Decides (not b) (sight_of forest tag ≡ sight_of (settled_forest size newest (contents_of forest)) tag)
-        → cond b (Some number) (get before tag) ≡ Some stamp → IsStampAfter forest (settled_forest size newest (contents_of forest)) before number tag stamp) [
+    settled : PlainForest SettledFields
+    settled = settled_forest size newest (contents_of forest)
+
+    is_there : (tag : ℕ) → is_some (cond (changed tag) (Some number) (get before tag)) ≡ is_some (first_settled tag forest)
+    is_there tag = elim (changed tag) as (λ b. changed tag ≡ b → is_some (cond b (Some number) (get before tag)) ≡ is_some (first_settled tag forest)) [
+      | true ↦ λ among. sym (changed_found newest tag size forest among)
+      | false ↦ λ _. mounted tag
+    ] refl
+
+    is_stamp : (tag stamp : ℕ) → cond (changed tag) (Some number) (get before tag) ≡ Some stamp → IsStampAfter forest settled before number tag stamp
+    is_stamp tag stamp = elim (changed tag) as (λ b. Decides (not b) (sight_of forest tag ≡ sight_of settled tag)
+        → cond b (Some number) (get before tag) ≡ Some stamp → IsStampAfter forest settled before number tag stamp) [
       | true ↦ λ alike found. let is : number ≡ stamp = cc in inr (λ same. false≢true (alike.1 same), sym is)
       | false ↦ λ alike found. inl (alike.0 refl, found)
     ] (same_once_settled size newest tag forest differ)
 
--- stamps stay where the forest does
-pub stamps_stay : (forest : PlainForest SettledFields) (stamps : StampMap) (number : ℕ) → HasTagsOf stamps forest → AreStampsAfter forest forest stamps number stamps
-stamps_stay forest stamps number mounted = record { mounted = mounted; each = λ tag stamp found. inl (refl, found) }
+    are : AreStampsAfter forest settled before number (all_stamped before number (changed_tags size newest forest))
+    are = record {
+      mounted = λ tag. ap is_some (get-all_stamped before number tag (changed_tags size newest forest)) ∙ is_there tag ∙ sym (found_alike newest tag size forest)
+          ∙ ap (λ new. is_some (first_settled tag new)) (sym (settled_below-in size newest [] (contents_of forest)));
+      each = λ tag stamp found. is_stamp tag stamp (sym (get-all_stamped before number tag (changed_tags size newest forest)) ∙ found);
+    }

@@ -106,7 +106,7 @@ seen_first : (above : Bool) (f : SettledFields) (k s : PlainForest SettledFields
 seen_first above f k s = rw (eq-eqb f.fields.tag f.fields.tag refl) refl
 
 -- what is seen below the first node, where its own tag is another
-seen_later : (above : Bool) (tag : ℕ) (f : SettledFields) (k s : PlainForest SettledFields) → nat_eq f.fields.tag tag ≡ false
+pub seen_later : (above : Bool) (tag : ℕ) (f : SettledFields) (k s : PlainForest SettledFields) → nat_eq f.fields.tag tag ≡ false
     → seen_below above tag (node f k s) ≡ option_or (seen_below (shown_here above f) tag k) (seen_below above tag s)
 seen_later above tag f k s other = rw other refl
 

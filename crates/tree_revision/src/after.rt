@@ -2,12 +2,13 @@
 
 ghost use Rattle.std.specs.Prelude.{◌≡◌, ◌+◌, ◌-◌, ◌<◌, ◌^◌, IfOk, IfErr, OnOk, None};
 ghost use Rattle.native_state.specs.Families.{cell_in};
-ghost use Rattle.native_state.specs.Made.{nodes_more};
+ghost use Rattle.native_state.specs.Made.{MadeCounts, nodes_more};
 ghost use Rattle.shadow_node.specs.Fields.{contents_of};
 ghost use Rattle.shadow_node.specs.InRange.{IsEditInRange};
 ghost use Rattle.shadow_node.specs.Limits.{IsForestWithin};
 ghost use Rattle.tree_build.specs.Script.{script_forest};
 ghost use Rattle.tree_build.specs.InRange.{AreNodesInRange};
+ghost use Rattle.tree_settle.specs.Along.{IsSettledBut};
 ghost use Rattle.tree_settle.specs.Changes.{changes_in};
 ghost use Rattle.tree_settle.specs.Limits.{IsSizeInRange};
 ghost use Rattle.tree_revision.specs.InRange.{IsOpInRange};
@@ -25,10 +26,10 @@ use clone_path::replace_at;
 use native_state::{FamilyTable, StateChange};
 use shadow_frame::Size;
 use shadow_kinds::has_state;
-use shadow_node::{Forest, Made, NodeEdit, Stamps, find};
+use shadow_node::{Forest, Made, NodeEdit, Stamps, find, path_to};
 use std::alloc::{AllocError, Global};
 use tree_build::{ScriptNode, build};
-use tree_settle::settle;
+use tree_settle::{SizeChange, settle, settle_along};
 
 /// The content after a front, of that size, with those families and with that forest, which is
 /// settled.
@@ -51,6 +52,49 @@ fn settled(
     let forest = settle(alloc, made, forest, size, &families)?;
     let number = front.number + 1;
     let stamps = stamps_after(alloc, &front.forest, &forest, &front.stamps, number)?;
+    Ok(Content {
+        number,
+        size,
+        forest,
+        families,
+        stamps,
+    })
+}
+
+/// The content after a front, of that size and with those families, for which the front's forest is
+/// settled but for the nodes on a way.
+fn settled_along(
+    alloc: Global,
+    made: &mut Made,
+    front: &Content,
+    size: Size,
+    families: FamilyTable,
+    way: &[u32],
+) -> Result<Content, AllocError>
+    requires number { front.now.number < 2 ^ 64 - 1 }
+    requires size { IsSizeInRange size }
+    requires counts { AreCountsWithin (front.now.number + 1) families }
+    requires but { IsSettledBut front.now.size (cell_in families) way.now front.now.forest }
+    ensures content { IfOk result (λ next. next ≡ settled_next front.now size families front.now.forest next.stamps) }
+    ensures stamps { IfOk result (AreNextStamps front.now) }
+    ensures made { IfOk result (λ next. made.new ≡ nodes_more made.old (changes_in next.size (cell_in next.families) front.now.forest)) }
+{
+    let mut renewed = Vec::new(alloc);
+    let sizes = SizeChange {
+        before: front.size,
+        after: size,
+    };
+    let forest = settle_along(
+        alloc,
+        made,
+        &mut renewed,
+        &front.forest,
+        sizes,
+        &families,
+        way,
+    )?;
+    let number = front.number + 1;
+    let stamps = front.stamps.with_each(alloc, &renewed, number)?;
     Ok(Content {
         number,
         size,
@@ -103,7 +147,10 @@ fn with_state(
         return Err(PrepareRefusal::Cancel(Cancel::Stateless { tag }));
     }
     let families = changed(alloc, made, &front.families, tag, change)?;
-    Ok(settled(alloc, made, front, front.size, families, &front.forest)?)
+    let way = path_to(alloc, &front.forest, tag)?.unwrap_or(Vec::new(alloc));
+    Ok(settled_along(
+        alloc, made, front, front.size, families, &way,
+    )?)
 }
 
 /// The content after a change of a node.
@@ -149,7 +196,7 @@ fn with_size(
     ensures made { IfOk result (λ next. IsMadeFor (resize size) front.now front.now next made.old made.new) }
 {
     let families = front.families.share()?;
-    settled(alloc, made, front, size, families, &front.forest)
+    settled_along(alloc, made, front, size, families, &[])
 }
 
 /// The content with an empty forest.
@@ -168,14 +215,21 @@ fn stopped(front: &Content) -> Result<Content, AllocError>
     })
 }
 
-/// The content after a change that leaves all as it is, except for the number.
-fn unchanged(alloc: Global, made: &mut Made, front: &Content) -> Result<Content, AllocError>
+/// The content after a change that leaves all as it is, except for the number. It makes nothing.
+fn unchanged(front: &Content) -> Result<Content, AllocError>
     requires { front.now.number < 2 ^ 64 - 1 }
     ensures next { IfOk result (λ next. next ≡ content_next suspend front.now front.now next.stamps) }
     ensures stamps { IfOk result (AreNextStamps front.now) }
-    ensures made { IfOk result (λ next. IsMadeFor suspend front.now front.now next made.old made.new) }
+    ensures made { IfOk result (λ next. (made : MadeCounts) → IsMadeFor suspend front.now front.now next made made) }
 {
-    with_size(alloc, made, front.size, front)
+    let number = front.number + 1;
+    Ok(Content {
+        number,
+        size: front.size,
+        forest: front.forest.share()?,
+        families: front.families.share()?,
+        stamps: front.stamps.share()?,
+    })
 }
 
 /// The content after a change of the front, by a caller that holds that content.
@@ -200,6 +254,6 @@ pub(crate) fn after(
         Op::Props { tag, change } => with_props(alloc, made, *tag, change, front),
         Op::Size { size } => Ok(with_size(alloc, made, *size, front)?),
         Op::Stop => Ok(stopped(front)?),
-        Op::Suspend | Op::Resume => Ok(unchanged(alloc, made, front)?),
+        Op::Suspend | Op::Resume => Ok(unchanged(front)?),
     }
 }

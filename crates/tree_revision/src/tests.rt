@@ -3,7 +3,7 @@
 ghost use Rattle.std.specs.Prelude.{◌≡◌, ◌≤◌, ◌<◌, ◌^◌, [], ◌∷◌, IfOk};
 ghost use Rattle.prop_table.specs.Table.{AreNodeProps};
 ghost use Rattle.shadow_node.specs.InRange.{IsTagInRange, IsEditInRange};
-ghost use Rattle.tree_build.specs.Script.{ScriptForest, in_front, script_forest};
+ghost use Rattle.tree_build.specs.Script.{ScriptForest, no_more, in_front, script_forest};
 ghost use Rattle.tree_build.specs.InRange.{AreNodesInRange};
 ghost use Rattle.tree_settle.specs.Limits.{IsSizeInRange};
 ghost use Rattle.tree_revision.specs.InRange.{IsOpInRange};
@@ -32,6 +32,8 @@ enum Try {
     Exchange,
     /// The view of that tag, and nothing else.
     View { tag: u32 },
+    /// The view 1 with the scroll 2 in it, both as wide as their parents, and 600 rows in that one.
+    List,
     /// Two views of one tag.
     Twice,
     /// The state moves by (5, 6).
@@ -40,6 +42,8 @@ enum Try {
     SetIf { tag: u32, count: u64 },
     /// Half the opacity.
     Fade { tag: u32 },
+    /// The node is 50 points wide.
+    Widen { tag: u32 },
     /// The node is hidden.
     Hide { tag: u32 },
     /// The node is not hidden.
@@ -206,6 +210,28 @@ fn exchanged(alloc: Global) -> Result<Items<ScriptNode>, AllocError>
     one(alloc, kept_with(1, below))
 }
 
+/// Adds a script node.
+#[tactic(auto, using(tree_build::proofs::Pushed::in_range_pushed))]
+fn push(nodes: &mut Items<ScriptNode>, node: ScriptNode) -> Result<(), AllocError>
+    requires nodes { AreNodesInRange (script_forest nodes.old) }
+    requires node { AreNodesInRange (in_front node no_more) }
+    ensures { OnOk result (AreNodesInRange (script_forest nodes.new)) }
+{
+    nodes.push(node)
+}
+
+/// The view 1 with the scroll 2 in it, and 600 rows in that one, with the tags from 3 on.
+fn list(alloc: Global) -> Result<Items<ScriptNode>, AllocError>
+    ensures { IfOk result (λ nodes. AreNodesInRange (script_forest nodes)) }
+{
+    let mut rows = Items::new(alloc);
+    for tag in 3..603 {
+        push(&mut rows, bare(alloc, tag, Kind::View))?;
+    }
+    let scroll = one(alloc, written(2, Kind::Scroll, wide(), rows))?;
+    one(alloc, written(1, Kind::View, wide(), scroll))
+}
+
 /// Another forest.
 fn complete(nodes: Items<ScriptNode>) -> Op
     requires { AreNodesInRange (script_forest nodes) }
@@ -233,6 +259,7 @@ fn op_of(alloc: Global, change: Try) -> Result<Op, AllocError>
         Try::Keep { tag } => Ok(complete(one(alloc, kept(tag))?)),
         Try::Exchange => Ok(complete(exchanged(alloc)?)),
         Try::View { tag } => Ok(complete(one(alloc, bare(alloc, tag, Kind::View))?)),
+        Try::List => Ok(complete(list(alloc)?)),
         Try::Twice => Ok(complete(two(
             alloc,
             bare(alloc, 6, Kind::View),
@@ -252,6 +279,7 @@ fn op_of(alloc: Global, change: Try) -> Result<Op, AllocError>
             },
         )),
         Try::Fade { tag } => Ok(props(tag, edited(rows::OPACITY, 50))),
+        Try::Widen { tag } => Ok(props(tag, edited(rows::WIDTH, 50))),
         Try::Hide { tag } => Ok(props(tag, edited(rows::HIDDEN, 1))),
         Try::Show { tag } => Ok(props(tag, edited(rows::HIDDEN, 0))),
         Try::Width { width } => Ok(Op::Size { size: size(width) }),
@@ -429,5 +457,30 @@ fn a_change_over_an_older_revision_is_seen(rt: HostRuntime) -> Result<(), Fail> 
     assert!(rt; step(rt.alloc(), &mut made, keep, &mut front, Some(&held)).is_ok());
     assert!(rt; stamps_in(&front) == [3, 1, 3, 0]);
     assert!(rt; stamps_in(&held) == [1, 1, 1, 0]);
+    Ok(())
+}
+
+#[test]
+fn a_change_in_a_list_costs_its_way(rt: HostRuntime) -> Result<(), Fail> {
+    let mut made = Made::start(&rt);
+    let mut front = Revision::opening(rt.alloc(), size(320))?;
+    let mounted = step(rt.alloc(), &mut made, Try::List, &mut front, None);
+    assert_eq!(rt; mounted, Ok(604), "the view and the scroll are placed");
+    let table = [
+        (Try::Add { tag: 2 }, 2, [1, 2, 0]),
+        (Try::Fade { tag: 300 }, 3, [1, 2, 300]),
+        (Try::Widen { tag: 300 }, 6, [1, 2, 300]),
+        (Try::Width { width: 400 }, 2, [1, 2, 0]),
+        (Try::Suspend, 0, [0, 0, 0]),
+    ];
+    for (change, want, renewed) in table {
+        let got = step(rt.alloc(), &mut made, change, &mut front, None);
+        let number = front.number();
+        assert_eq!(rt; got, Ok(want), "to {number}");
+        for tag in 1..603 {
+            let is_renewed = front.stamps().get(tag) == Some(number);
+            assert_eq!(rt; is_renewed, renewed.contains(&tag), "{tag} at {number}");
+        }
+    }
     Ok(())
 }

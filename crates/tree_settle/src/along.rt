@@ -27,7 +27,7 @@ fn is_kept(size: SizeChange) -> bool
 }
 
 /// Whether a way leads to a node, and the way below it.
-fn way_under<'a>(way: &'a [u32], node: &ShadowNode) -> (bool, &'a [u32])
+pub(crate) fn way_under<'a>(way: &'a [u32], node: &ShadowNode) -> (bool, &'a [u32])
     ensures leads { result.0 ≡ leads_to way.now node.now.fields.fields.tag }
     ensures below { result.1.now ≡ way_at way.now node.now.fields.fields.tag }
 {

@@ -137,7 +137,8 @@ fn settled(
     requires low { pos 0 ≤ℤ width }
     requires high { width ≤ℤ pos 1000000 }
     requires within { IsForestWithin (contents_of forest.now) }
-    ensures { IfOk result IsForestInLimits }
+    ensures limits { IfOk result IsForestInLimits }
+    ensures depth { IfOk result (λ settled. depth_of settled ≤ 48) }
 {
     settle(alloc, made, forest, surface(width), families)
 }

@@ -13,6 +13,6 @@ decreases-is_settled_but l = 2 * node_count l.forest.now
 
 abbrev pub invariant-is_settled_but-loop-node : goal.invariant-is_settled_but-loop-node
 invariant-is_settled_but-loop-node l = record {
-  within : node_count (forest_at (drop l.node-index l.nodes)) ≤ node_count l.forest;
-  whole : IsSettledBut l.parent (cell_in l.families) l.way (forest_at (drop l.node-index l.nodes)) → IsSettledBut l.parent (cell_in l.families) l.way l.forest;
+  within : node_count (forest_at (drop l.node-index l.node-items)) ≤ node_count l.forest;
+  whole : IsSettledBut l.parent (cell_in l.families) l.way (forest_at (drop l.node-index l.node-items)) → IsSettledBut l.parent (cell_in l.families) l.way l.forest;
 }
