@@ -103,7 +103,7 @@ each_view (placed ∷ others) d = (
       (each_view others (IsDistinct-tail nat_eq placed.tag (host_tags others) d))),
 )
 
-first_tag_of : List (ℕ × ℕ) → ℕ
+abbrev first_tag_of : List (ℕ × ℕ) → ℕ
 first_tag_of [] = 0
 first_tag_of (stand ∷ others) = stand.1
 

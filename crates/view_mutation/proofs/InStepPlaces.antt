@@ -41,7 +41,7 @@ place_here (placed ∷ others) (suc k) d apart lt =
     ∙ place_here others k d (IsDistinct-tail nat_eq tag rest apart) (omega arith)
 
 -- the tag at an index, by where the views stand
-tag_of_stand : List (ℕ × ℕ) → ℕ → ℕ
+abbrev tag_of_stand : List (ℕ × ℕ) → ℕ → ℕ
 tag_of_stand [] k = 0
 tag_of_stand (stand ∷ others) zero = stand.1
 tag_of_stand (stand ∷ others) (suc k) = tag_of_stand others k
