@@ -3,7 +3,6 @@ use Rattle.std.proofs.Common.{◌≡◌, ◌≤◌, ℕ, Bool, true, false, List
 use Rattle.std.specs.Prelude.{◌&&◌, nat_le, Option, Some, None, is_some, unwrap_or}
 use Rattle.std.specs.FinMap.{get}
 use Rattle.std.proofs.lemmas.Bool.{leb-true}
-use Rattle.std.proofs.lemmas.List.{take-take}
 use Rattle.shadow_frame.specs.declared.Size.{Size}
 use Rattle.shadow_kinds.specs.Traits.{forms_context_of}
 use Rattle.shadow_node.specs.Find.{first_settled}

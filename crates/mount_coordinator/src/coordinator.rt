@@ -18,7 +18,6 @@ ghost use Rattle.tree_revision.specs.Ports.{Lasts};
 ghost use Rattle.mount_coordinator.specs.Mounted.{IsBaseOf, IsBaseIn, entered_from};
 ghost use Rattle.mount_coordinator.specs.Answers.{MayFinish, IsFinishAnswer, IsPullAnswer};
 
-use crate::applied::apply_all;
 use counts::raise;
 use host_views::{Mutation, Registry};
 use sqlite_items::Items;
@@ -155,7 +154,7 @@ impl Coordinator {
 
     /// Leads the base on to that revision.
     ///
-    /// The mutations are applied to a copy of the registry, which takes its place at the end.
+    /// Where there is no memory for the mutations, the registry is left as it is.
     fn lead_to(&mut self, alloc: Global, to: Revision) -> Result<Transaction, AllocError>
         requires mountable { to.mountable ≡ to.newest }
         requires leads { LeadOn (host_tree_of self.old.base.forest) (host_tree_of to.newest.forest) }
@@ -171,15 +170,13 @@ impl Coordinator {
         ensures stays { OnErr result (self.new ≡ self.old) }
     {
         let (mutations, entered) = mutations_to(alloc, &self.base, &to)?;
-        let mut registry = self.registry.copy(alloc)?;
-        apply_all(&mut registry, mutations.as_slice())?;
+        self.registry.apply_all(alloc, mutations.as_slice())?;
         let transaction = Transaction {
             base: self.base.number(),
             to: to.number(),
             mutations,
         };
         self.base = to;
-        self.registry = registry;
         self.entered = raise(self.entered, entered);
         Ok(transaction)
     }

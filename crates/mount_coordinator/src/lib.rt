@@ -1,7 +1,6 @@
 //! Mounting: the base that stands mounted, and the registry of its views.
 #![tactic(auto)]
 
-mod applied;
 mod coordinator;
 #[cfg(test)]
 mod entered_tests;
