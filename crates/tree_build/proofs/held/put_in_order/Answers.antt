@@ -1,6 +1,5 @@
-use Rattle.std.proofs.Common.{◌≡◌, ap, sym, subst, true, rules, Bor}
+use Rattle.std.proofs.Common.{ap, rules, Bor}
 use Rattle.std.specs.Option.{option_map}
-use Rattle.std.specs.List.Sorted.{IsNonDecreasingBy}
 use Rattle.std.proofs.lemmas.List.Sorted.{answers_always, IsNonDecreasingBy-from_sort_by_key}
 use Rattle.shadow_node.specs.Falls.{Shared}
 use Rattle.tree_build.proofs.Tagged.{find_sorted}

@@ -1,4 +1,4 @@
-use Rattle.std.proofs.Common.{◌≡◌, ap, sym, subst, ◌∙◌, length, nat_eq, rules}
+use Rattle.std.proofs.Common.{◌≡◌, ap, subst, ◌∙◌, length, nat_eq, rules}
 use Rattle.std.specs.List.{IsDistinct}
 use Rattle.shadow_node.specs.Fields.{contents_of, tags_of}
 use Rattle.tree_build.proofs.Repeats.{length-tags}
