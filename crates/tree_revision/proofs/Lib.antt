@@ -26,3 +26,4 @@ pub mod Added
 pub mod Unsettled
 pub mod Along
 pub mod Renewed
+pub mod Places
