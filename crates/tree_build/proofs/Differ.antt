@@ -11,14 +11,17 @@ use Rattle.std.proofs.lemmas.Map.Keys.{IsDistinct-IsPermutation}
 abbrev DoRise : List ℕ → Type 0
 DoRise xs = (k d : ℕ) → suc k < length xs → get_or xs k d < get_or xs (suc k) d
 
+-- the second may be left out
 skipped : (low x : ℕ) (xs : List ℕ) → DoRise (low ∷ x ∷ xs) → DoRise (low ∷ xs)
 skipped low x xs up zero d lt = omega (arith, up 0 d (omega arith), up 1 d (omega arith))
 skipped low x xs up (suc k) d lt = up (suc (suc k)) d (omega arith)
 
+-- the first differs from all after it
 apart_above : (low : ℕ) (xs : List ℕ) → DoRise (low ∷ xs) → AllByRecursion (λ x. nat_eq low x ≡ false) xs
 apart_above low [] up = tt
 apart_above low (x ∷ xs) up = (ne_eqb low x (λ e. absurd (omega (arith, e, up 0 0 (omega arith)))), apart_above low xs (skipped low x xs up))
 
+-- so all of them differ
 rising_differ : (xs : List ℕ) → DoRise xs → IsDistinct nat_eq xs
 unfolding IsDistinct
 rising_differ [] up = tt

@@ -60,6 +60,7 @@ module _ {V : Type 0} where
   abbrev goes_before : ℕ × V → ℕ × V → Bool
   goes_before x y = is_lt (nat_cmp x.0 y.0)
 
+  -- the first of a list to which an element may be added in front
   first_of_both : (b : Bool) (e : ℕ × V) (es : List (ℕ × V)) → cond b (Some e.1) (first_value es) ≡ first_value (cond b (e ∷ es) es)
   first_of_both true e es = refl
   first_of_both false e es = refl
