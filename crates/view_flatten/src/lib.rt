@@ -51,7 +51,7 @@ pub fn places<'a>(alloc: Global, walk: &mut Walk<'a>, skip: &Skip) -> Result<Pla
     add_forest(walk, &mut found, top, Some(Host::root()), skip)?;
     let Found { mut sites, skipped } = found;
     put_in_order(&mut sites)?;
-    let mut list = Vec::new(alloc);
+    let mut list = Vec::with_capacity(alloc, sites.len())?;
     add_below(&mut list, &sites, 0, sites.len())?;
     Ok(Places { list, skipped })
 }

@@ -49,9 +49,9 @@ returns-clause-tree c =
     let found = sites_found test c.args.walk.now.forest start c.add_forest.new.found c.new.ensures.items whole in
     let ordered = c.put_in_order.new.sites.items in
     let tree = whole_tree test c.args.walk.now.forest c.add_forest.new.found.sites.items ordered found c.in_ok-put_in_order.ensures.by_z (length_permutation _ _ c.put_in_order.ensures.moved) in
-    let levels : c.len.result ≡ length ordered = search rules in
+    let levels : c.len-2.result ≡ length ordered = search rules in
     let below : plain_places c.add_below.new.places.items ≡ tree_below (length ordered) (plain_sites ordered) 0 =
-    c.in_ok-add_below.ensures.places ∙ (λ i. plain_places (c.new-list.ensures.items i) ++ tree_below (levels i) (plain_sites (c.deref.ensures.value i)) 0) in
+    c.in_ok-add_below.ensures.places ∙ (λ i. plain_places (c.in_ok-list.ensures.items i) ++ tree_below (levels i) (plain_sites (c.deref.ensures.value i)) 0) in
     below ∙ tree
 
 pub returns-clause-count : goal.returns-clause-count
@@ -68,4 +68,4 @@ returns-clause-marked c =
     let whole = found_at_root c.args.skip.now c.args.walk.now.stamps c.args.walk.now.forest c.top-top.result c.root.result start c.add_forest.new.found c.top-top.ensures c.root.ensures c.in_ok-add_forest.ensures.found in
     let marked = whole.marked (subst (AreSitesMarked test) (sym c.new.ensures.items) (All-nil (IsSiteMarked test))) in
     let ordered = All-permutation (IsSiteMarked test) c.add_forest.new.found.sites.items c.put_in_order.new.sites.items c.put_in_order.ensures.moved marked in
-    c.in_ok-add_below.ensures.marked test (subst (AreSitesMarked test) (sym c.deref.ensures.value) ordered) (subst (AreMarked test) (sym c.new-list.ensures.items) (All-nil (λ (placed : Placed). placed.is_skipped ≡ test placed.spot.tree.fields)))
+    c.in_ok-add_below.ensures.marked test (subst (AreSitesMarked test) (sym c.deref.ensures.value) ordered) (subst (AreMarked test) (sym c.in_ok-list.ensures.items) (All-nil (λ (placed : Placed). placed.is_skipped ≡ test placed.spot.tree.fields)))
