@@ -1,9 +1,9 @@
 -- Places of nodes, one after another.
-use Rattle.std.proofs.Common.{◌≡◌, ℕ, Bool, true, false, cond, List, [], ◌∷◌, ◌++◌, Option, Some, None, nat_eq, refl, ap, ◌∙◌}
+use Rattle.std.proofs.Common.{◌≡◌, ℕ, Bool, true, false, cond, List, [], ◌∷◌, ◌++◌, Some, None, nat_eq, refl, ap, ◌∙◌}
 use Rattle.std.specs.Option.{option_map, option_or}
 use Rattle.std.specs.Ordering.{nat_cmp, eq_by_cmp}
 use Rattle.std.specs.FinMap.{find}
-use Rattle.tree_revision.specs.Unchanged.{SeenNode, seen_by, seen_place}
+use Rattle.tree_revision.specs.Unchanged.{seen_by, seen_place}
 use Rattle.tree_revision.specs.declared.stamping.Place.{Place}
 use Rattle.tree_revision.proofs.Counts.{ties-nat_eq}
 

@@ -1,6 +1,5 @@
-use Rattle.std.proofs.Common.{◌≡◌, ap, sym, subst, true, rules}
+use Rattle.std.proofs.Common.{ap, rules}
 use Rattle.std.specs.Option.{option_map}
-use Rattle.std.specs.List.Sorted.{IsNonDecreasingBy}
 use Rattle.std.proofs.lemmas.List.Sorted.{answers_always, IsNonDecreasingBy-from_sort_by_key}
 use Rattle.tree_revision.specs.Unchanged.{seen_place}
 use Rattle.tree_build.proofs.Tagged.{find_sorted}
