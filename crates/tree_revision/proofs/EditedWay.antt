@@ -17,6 +17,7 @@ use Rattle.clone_path.proofs.Tags.{all_tags, all_tags-node, each_in_second, none
 use Rattle.clone_path.proofs.OneNode.{changed_here, changed_below, changed_past, differ_below}
 use Rattle.clone_path.proofs.Ways.{way_found, way_past}
 use Rattle.tree_settle.specs.Along.{IsSettledBut, leads_to, way_below}
+use Rattle.tree_settle.specs.Limits.{AreFramesInBounds}
 use Rattle.tree_settle.specs.Walk.{fields_in, settled_in}
 use Rattle.tree_revision.specs.Unchanged.{SeenNode, shown_here, seen_below}
 use Rattle.tree_revision.proofs.Seen.{second_of, seen_later}
@@ -228,6 +229,17 @@ module _ (tag : ℕ) (change : NodeEdit) where
             ap (seen_below up looked) (changed_past tag change f k s other absent)
             ∙ (λ i. cond (nat_eq f.fields.tag looked) (Some (record { tree = record { fields = f; children = k }; shown = shown_here up f }))
             (option_or (seen_below (shown_here up f) looked k) (inner i)))
+      ]
+
+  -- the frames stay, and with them their bounds
+  pub frames_edited : (forest : PlainForest SettledFields) → AreFramesInBounds forest → AreFramesInBounds (forest_edited_at tag change forest)
+  frames_edited none bounds = tt
+  frames_edited (node f k s) bounds =
+      let below = frames_edited k bounds.1 in
+      let after = frames_edited s bounds.2 in
+      elim (nat_eq f.fields.tag tag) as (λ b. AreFramesInBounds (node (cond b (edited_settled change f) f) (forest_edited_at tag change k) (forest_edited_at tag change s))) [
+        | true ↦ (bounds.0, below, after)
+        | false ↦ (bounds.0, below, after)
       ]
 
   -- a settled forest with the change is settled but for the nodes on the way to it

@@ -60,7 +60,7 @@ fn add_all<'a>(places: &mut Places<'a>, forest: &'a Forest, above: bool) -> Resu
 }
 
 /// Whether two nodes are equal, but for what is below them.
-fn has_same_fields(was: &ShadowNode, node: &ShadowNode) -> bool
+pub(crate) fn has_same_fields(was: &ShadowNode, node: &ShadowNode) -> bool
     ensures { result ≡ is_same_fields was.now.fields node.now.fields }
 {
     was.tag() == node.tag()
