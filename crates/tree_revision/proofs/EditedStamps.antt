@@ -1,5 +1,7 @@
 -- The stamps after a change of the node of one tag.
 use Rattle.std.proofs.Common.{◌≡◌, ◌≢◌, ℕ, List, [], ◌++◌, Bool, true, false, cond, not, ◌||◌, Decides, Option, Some, None, is_some, nat_eq, inl, inr, refl, ap, sym, ◌∙◌, subst}
+use Rattle.std.specs.Prelude.{Result, Ok, Err, IfOk}
+use Rattle.std.specs.declared.alloc.AllocError.{AllocError}
 use Rattle.std.specs.List.{IsDistinct}
 use Rattle.std.specs.Option.{option_map}
 use Rattle.std.specs.FinMap.{get}
@@ -30,6 +32,16 @@ use Rattle.tree_revision.proofs.EditedWay.{edited_found, edited_same, edited_tre
 use Rattle.tree_revision.proofs.Forests.{tags_edited}
 use Rattle.tree_revision.proofs.Renewed.{is_among, changed_found, found_alike, get-all_stamped, same_once_settled}
 use Rattle.tree_revision.proofs.Seen.{same_sights}
+
+-- stamps stay where the forest does
+pub stamps_stay : (old new : PlainForest SettledFields) (stamps : StampMap) (number : ℕ) → HasTagsOf stamps old → new ≡ old → AreStampsAfter old new stamps number stamps
+stamps_stay old new stamps number mounted same =
+    subst (λ new. AreStampsAfter old new stamps number stamps) (sym same) (record { mounted = mounted; each = λ tag stamp found. inl (refl, found) })
+
+-- what holds of a value holds of an answer that is it
+pub if_ok_is : {A : Type 0} (P : A → Type 0) (answer : Result A AllocError) (value : A) → IfOk answer (λ given. given ≡ value) → P value → IfOk answer P
+if_ok_is P (Ok given) value is holds = subst P (sym is) holds
+if_ok_is P (Err error) value is holds = tt
 
 -- a change of a node keeps the tags
 pub all_tags-edited : (tag : ℕ) (change : NodeEdit) (forest : PlainForest SettledFields) → all_tags (forest_edited_at tag change forest) ≡ all_tags forest
