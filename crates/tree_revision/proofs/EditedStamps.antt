@@ -47,8 +47,7 @@ if_ok_is P (Err error) value is holds = tt
 pub all_tags-edited : (tag : ℕ) (change : NodeEdit) (forest : PlainForest SettledFields) → all_tags (forest_edited_at tag change forest) ≡ all_tags forest
 all_tags-edited tag change forest = ap tags_of (contents_of-forest_edited_at tag change forest) ∙ tags_edited tag change (contents_of forest)
 
-module _ (size : Size) (newest : ℕ → StateCell) (tag : ℕ) (change : NodeEdit) (way : List ℕ) (old : PlainForest SettledFields)
-(differ : IsDistinct nat_eq (all_tags old)) (leads : way_to tag old ≡ Some way) where
+module _ (size : Size) (newest : ℕ → StateCell) (tag : ℕ) (change : NodeEdit) (way : List ℕ) (old : PlainForest SettledFields) (differ : IsDistinct nat_eq (all_tags old)) (leads : way_to tag old ≡ Some way) where
   abbrev next : PlainForest SettledFields
   next = forest_edited_at tag change old
 
@@ -85,8 +84,7 @@ module _ (size : Size) (newest : ℕ → StateCell) (tag : ℕ) (change : NodeEd
       let one : contents_of_node tree ≡ contents_of_node (edited_tree tag change tree) = cc in
       other (λ i. record { fields = (one i).fields; state = tree.fields.state; frame = tree.fields.frame })
 
-  module _ (before : StampMap) (number : ℕ) (mounted : HasTagsOf before old) (tree : PlainNode SettledFields) (found : first_settled tag old ≡ Some tree)
-  (other : tree.fields ≢ edited_settled change tree.fields) (hidden : is_hidden_of (edited_settled change tree.fields).fields.props ≡ is_hidden_of tree.fields.fields.props) where
+  module _ (before : StampMap) (number : ℕ) (mounted : HasTagsOf before old) (tree : PlainNode SettledFields) (found : first_settled tag old ≡ Some tree) (other : tree.fields ≢ edited_settled change tree.fields) (hidden : is_hidden_of (edited_settled change tree.fields).fields.props ≡ is_hidden_of tree.fields.fields.props) where
     abbrev changed : List ℕ
     changed = changed_tags size newest next
 

@@ -140,19 +140,22 @@ module _ (tag : ℕ) (change : NodeEdit) where
   pub found_edited : (looked : ℕ) (forest : PlainForest SettledFields) → is_some (first_settled looked (forest_edited_at tag change forest)) ≡ is_some (first_settled looked forest)
   found_edited looked none = refl
   found_edited looked (node f k s) =
+      let below_there = found_edited looked k in
+      let after_there = found_edited looked s in
       elim (nat_eq f.fields.tag tag) as (λ b. is_some (first_settled looked (node (cond b (edited_settled change f) f) (forest_edited_at tag change k) (forest_edited_at tag change s)))
       ≡ is_some (first_settled looked (node f k s))) [
-        | true ↦ found_node (edited_settled change f) (nat_eq f.fields.tag looked)
-        | false ↦ found_node f (nat_eq f.fields.tag looked)
+        | true ↦ found_node (edited_settled change f) (nat_eq f.fields.tag looked) below_there after_there
+        | false ↦ found_node f (nat_eq f.fields.tag looked) below_there after_there
       ]
     where
-      found_node : (g : SettledFields) (b : Bool)
+      found_node : (g : SettledFields) (b : Bool) → is_some (first_settled looked (forest_edited_at tag change k)) ≡ is_some (first_settled looked k)
+          → is_some (first_settled looked (forest_edited_at tag change s)) ≡ is_some (first_settled looked s)
           → is_some (cond b (Some (record { fields = g; children = forest_edited_at tag change k })) (option_or (first_settled looked (forest_edited_at tag change k)) (first_settled looked (forest_edited_at tag change s))))
           ≡ is_some (cond b (Some (record { fields = f; children = k })) (option_or (first_settled looked k) (first_settled looked s)))
-      found_node g true = refl
-      found_node g false =
+      found_node g true below_there after_there = refl
+      found_node g false below_there after_there =
           some_or (first_settled looked (forest_edited_at tag change k)) (first_settled looked (forest_edited_at tag change s))
-          ∙ (λ i. found_edited looked k i || found_edited looked s i)
+          ∙ (λ i. below_there i || after_there i)
           ∙ sym (some_or (first_settled looked k) (first_settled looked s))
 
   -- a node with the change
