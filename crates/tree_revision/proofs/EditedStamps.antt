@@ -1,5 +1,7 @@
 -- The stamps after a change of the node of one tag.
 use Rattle.std.proofs.Common.{◌≡◌, ◌≢◌, ℕ, List, [], ◌++◌, Bool, true, false, cond, not, ◌||◌, Decides, Option, Some, None, is_some, nat_eq, inl, inr, refl, ap, sym, ◌∙◌, subst}
+use Rattle.std.specs.Prelude.{Result, Ok, Err, IfOk}
+use Rattle.std.specs.declared.alloc.AllocError.{AllocError}
 use Rattle.std.specs.List.{IsDistinct}
 use Rattle.std.specs.Option.{option_map}
 use Rattle.std.specs.FinMap.{get}
@@ -31,12 +33,21 @@ use Rattle.tree_revision.proofs.Forests.{tags_edited}
 use Rattle.tree_revision.proofs.Renewed.{is_among, changed_found, found_alike, get-all_stamped, same_once_settled}
 use Rattle.tree_revision.proofs.Seen.{same_sights}
 
+-- stamps stay where the forest does
+pub stamps_stay : (old new : PlainForest SettledFields) (stamps : StampMap) (number : ℕ) → HasTagsOf stamps old → new ≡ old → AreStampsAfter old new stamps number stamps
+stamps_stay old new stamps number mounted same =
+    subst (λ new. AreStampsAfter old new stamps number stamps) (sym same) (record { mounted = mounted; each = λ tag stamp found. inl (refl, found) })
+
+-- what holds of a value holds of an answer that is it
+pub if_ok_is : {A : Type 0} (P : A → Type 0) (answer : Result A AllocError) (value : A) → IfOk answer (λ given. given ≡ value) → P value → IfOk answer P
+if_ok_is P (Ok given) value is holds = subst P (sym is) holds
+if_ok_is P (Err error) value is holds = tt
+
 -- a change of a node keeps the tags
 pub all_tags-edited : (tag : ℕ) (change : NodeEdit) (forest : PlainForest SettledFields) → all_tags (forest_edited_at tag change forest) ≡ all_tags forest
 all_tags-edited tag change forest = ap tags_of (contents_of-forest_edited_at tag change forest) ∙ tags_edited tag change (contents_of forest)
 
-module _ (size : Size) (newest : ℕ → StateCell) (tag : ℕ) (change : NodeEdit) (way : List ℕ) (old : PlainForest SettledFields)
-(differ : IsDistinct nat_eq (all_tags old)) (leads : way_to tag old ≡ Some way) where
+module _ (size : Size) (newest : ℕ → StateCell) (tag : ℕ) (change : NodeEdit) (way : List ℕ) (old : PlainForest SettledFields) (differ : IsDistinct nat_eq (all_tags old)) (leads : way_to tag old ≡ Some way) where
   abbrev next : PlainForest SettledFields
   next = forest_edited_at tag change old
 
@@ -73,8 +84,7 @@ module _ (size : Size) (newest : ℕ → StateCell) (tag : ℕ) (change : NodeEd
       let one : contents_of_node tree ≡ contents_of_node (edited_tree tag change tree) = cc in
       other (λ i. record { fields = (one i).fields; state = tree.fields.state; frame = tree.fields.frame })
 
-  module _ (before : StampMap) (number : ℕ) (mounted : HasTagsOf before old) (tree : PlainNode SettledFields) (found : first_settled tag old ≡ Some tree)
-  (other : tree.fields ≢ edited_settled change tree.fields) (hidden : is_hidden_of (edited_settled change tree.fields).fields.props ≡ is_hidden_of tree.fields.fields.props) where
+  module _ (before : StampMap) (number : ℕ) (mounted : HasTagsOf before old) (tree : PlainNode SettledFields) (found : first_settled tag old ≡ Some tree) (other : tree.fields ≢ edited_settled change tree.fields) (hidden : is_hidden_of (edited_settled change tree.fields).fields.props ≡ is_hidden_of tree.fields.fields.props) where
     abbrev changed : List ℕ
     changed = changed_tags size newest next
 

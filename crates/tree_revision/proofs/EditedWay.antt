@@ -17,6 +17,7 @@ use Rattle.clone_path.proofs.Tags.{all_tags, all_tags-node, each_in_second, none
 use Rattle.clone_path.proofs.OneNode.{changed_here, changed_below, changed_past, differ_below}
 use Rattle.clone_path.proofs.Ways.{way_found, way_past}
 use Rattle.tree_settle.specs.Along.{IsSettledBut, leads_to, way_below}
+use Rattle.tree_settle.specs.Limits.{AreFramesInBounds}
 use Rattle.tree_settle.specs.Walk.{fields_in, settled_in}
 use Rattle.tree_revision.specs.Unchanged.{SeenNode, shown_here, seen_below}
 use Rattle.tree_revision.proofs.Seen.{second_of, seen_later}
@@ -139,19 +140,22 @@ module _ (tag : ℕ) (change : NodeEdit) where
   pub found_edited : (looked : ℕ) (forest : PlainForest SettledFields) → is_some (first_settled looked (forest_edited_at tag change forest)) ≡ is_some (first_settled looked forest)
   found_edited looked none = refl
   found_edited looked (node f k s) =
+      let below_there = found_edited looked k in
+      let after_there = found_edited looked s in
       elim (nat_eq f.fields.tag tag) as (λ b. is_some (first_settled looked (node (cond b (edited_settled change f) f) (forest_edited_at tag change k) (forest_edited_at tag change s)))
       ≡ is_some (first_settled looked (node f k s))) [
-        | true ↦ found_node (edited_settled change f) (nat_eq f.fields.tag looked)
-        | false ↦ found_node f (nat_eq f.fields.tag looked)
+        | true ↦ found_node (edited_settled change f) (nat_eq f.fields.tag looked) below_there after_there
+        | false ↦ found_node f (nat_eq f.fields.tag looked) below_there after_there
       ]
     where
-      found_node : (g : SettledFields) (b : Bool)
+      found_node : (g : SettledFields) (b : Bool) → is_some (first_settled looked (forest_edited_at tag change k)) ≡ is_some (first_settled looked k)
+          → is_some (first_settled looked (forest_edited_at tag change s)) ≡ is_some (first_settled looked s)
           → is_some (cond b (Some (record { fields = g; children = forest_edited_at tag change k })) (option_or (first_settled looked (forest_edited_at tag change k)) (first_settled looked (forest_edited_at tag change s))))
           ≡ is_some (cond b (Some (record { fields = f; children = k })) (option_or (first_settled looked k) (first_settled looked s)))
-      found_node g true = refl
-      found_node g false =
+      found_node g true below_there after_there = refl
+      found_node g false below_there after_there =
           some_or (first_settled looked (forest_edited_at tag change k)) (first_settled looked (forest_edited_at tag change s))
-          ∙ (λ i. found_edited looked k i || found_edited looked s i)
+          ∙ (λ i. below_there i || after_there i)
           ∙ sym (some_or (first_settled looked k) (first_settled looked s))
 
   -- a node with the change
@@ -228,6 +232,17 @@ module _ (tag : ℕ) (change : NodeEdit) where
             ap (seen_below up looked) (changed_past tag change f k s other absent)
             ∙ (λ i. cond (nat_eq f.fields.tag looked) (Some (record { tree = record { fields = f; children = k }; shown = shown_here up f }))
             (option_or (seen_below (shown_here up f) looked k) (inner i)))
+      ]
+
+  -- the frames stay, and with them their bounds
+  pub frames_edited : (forest : PlainForest SettledFields) → AreFramesInBounds forest → AreFramesInBounds (forest_edited_at tag change forest)
+  frames_edited none bounds = tt
+  frames_edited (node f k s) bounds =
+      let below = frames_edited k bounds.1 in
+      let after = frames_edited s bounds.2 in
+      elim (nat_eq f.fields.tag tag) as (λ b. AreFramesInBounds (node (cond b (edited_settled change f) f) (forest_edited_at tag change k) (forest_edited_at tag change s))) [
+        | true ↦ (bounds.0, below, after)
+        | false ↦ (bounds.0, below, after)
       ]
 
   -- a settled forest with the change is settled but for the nodes on the way to it

@@ -1,5 +1,5 @@
 -- How the code finds the nodes that stand as they did. Only contracts inside the crate cite it.
-use Rattle.std.specs.Prelude.{◌≡◌, ℕ, List, [], ◌∷◌, ◌++◌, Bool, true, not, ◌&&◌, nat_eq, if◌then◌else◌, Option, Some, None, refl}
+use Rattle.std.specs.Prelude.{◌≡◌, ◌≢◌, ℕ, List, [], ◌∷◌, ◌++◌, Bool, true, not, ◌&&◌, nat_eq, if◌then◌else◌, Option, Some, None, refl}
 use Rattle.std.specs.Coded.{Coded, code_by, coded×, coded_ℕ}
 use Rattle.std.specs.List.{AllByRecursion}
 use Rattle.std.specs.List.Sorted.{IsNonDecreasingBy}
@@ -17,8 +17,8 @@ use Rattle.shadow_node.specs.Forest.{PlainForest, none, node, PlainNode}
 use Rattle.shadow_node.specs.Fields.{SettledFields}
 use Rattle.shadow_node.specs.Find.{first_settled}
 use Rattle.shadow_node.specs.Code.{coded_forest, coded_settled}
-use Rattle.shadow_node.specs.Stamps.{StampMap}
-use Rattle.tree_revision.specs.ForestStamps.{IsStampAfter}
+use Rattle.shadow_node.specs.Stamps.{StampMap, all_stamped}
+use Rattle.tree_revision.specs.ForestStamps.{IsStampAfter, AreStampsAfter}
 use Rattle.tree_revision.specs.declared.stamping.Place.{Place}
 
 -- a node with all below it, and whether it is shown
@@ -101,3 +101,9 @@ seen_by places tag = option_map seen_place (find nat_cmp tag places)
 pub record ArePlacesOf (places : List (ℕ × Place)) (forest : PlainForest SettledFields) : Type 0 where
   pub in_order : IsNonDecreasingBy (λ place. place.0) places
   pub seen : (tag : ℕ) → seen_by places tag ≡ seen_below true tag forest
+
+-- a change of the node of one tag, which leads from an old forest to an edited one, and by settling to a new one: where that node stays the same, the forest does; and where it is another that is hidden as before, the tags of a list get the new number, and all others keep their stamps
+pub record IsChangeAt (tag : ℕ) (old edited new : PlainForest SettledFields) (before : StampMap) (number : ℕ) (tags : List ℕ) : Type 0 where
+  pub same : (was now : PlainNode SettledFields) → first_settled tag old ≡ Some was → first_settled tag edited ≡ Some now → was.fields ≡ now.fields → new ≡ old
+  pub other : (was now : PlainNode SettledFields) → first_settled tag old ≡ Some was → first_settled tag edited ≡ Some now → was.fields ≢ now.fields
+      → is_hidden_of was.fields.fields.props ≡ is_hidden_of now.fields.fields.props → AreStampsAfter old new before number (all_stamped before number tags)

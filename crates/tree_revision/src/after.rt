@@ -1,9 +1,10 @@
 //! The content of the next revision, for each kind of change.
 
-ghost use Rattle.std.specs.Prelude.{◌≡◌, ◌+◌, ◌-◌, ◌<◌, ◌^◌, IfOk, IfErr, OnOk, None};
+ghost use Rattle.std.specs.Prelude.{◌≡◌, ◌+◌, ◌-◌, ◌<◌, ◌^◌, nat_eq, IfOk, IfErr, OnOk, None};
+ghost use Rattle.std.specs.List.{IsDistinct};
 ghost use Rattle.native_state.specs.Families.{cell_in};
 ghost use Rattle.native_state.specs.Made.{MadeCounts, nodes_more};
-ghost use Rattle.shadow_node.specs.Fields.{contents_of};
+ghost use Rattle.shadow_node.specs.Fields.{contents_of, tags_of};
 ghost use Rattle.shadow_node.specs.InRange.{IsEditInRange};
 ghost use Rattle.shadow_node.specs.Limits.{IsForestWithin};
 ghost use Rattle.tree_build.specs.Script.{script_forest};
@@ -11,21 +12,23 @@ ghost use Rattle.tree_build.specs.InRange.{AreNodesInRange};
 ghost use Rattle.tree_settle.specs.Along.{IsSettledBut};
 ghost use Rattle.tree_settle.specs.Changes.{changes_in};
 ghost use Rattle.tree_settle.specs.Limits.{IsSizeInRange};
+ghost use Rattle.tree_revision.specs.ForestStamps.{AreStampsAfter};
 ghost use Rattle.tree_revision.specs.InRange.{IsOpInRange};
 ghost use Rattle.tree_revision.specs.Records.{plain_op, complete, state as state_op, props as props_op, resize, stop, suspend};
 ghost use Rattle.tree_revision.specs.Prepared.{AreNextStamps, cause_in, content_next};
 ghost use Rattle.tree_revision.specs.Steps.{AreCountsWithin, IsFor, settled_next};
 ghost use Rattle.tree_revision.specs.Made.{IsMadeFor};
+ghost use Rattle.tree_revision.specs.Unchanged.{IsChangeAt};
 
 use crate::family_changes::{changed, grown};
 use crate::next::PrepareRefusal;
 use crate::record::{Cancel, Op};
 use crate::revision::Content;
-use crate::stamping::stamps_after;
+use crate::stamping::{has_same_fields, stamps_after};
 use clone_path::replace_at;
 use native_state::{FamilyTable, StateChange};
 use shadow_frame::Size;
-use shadow_kinds::has_state;
+use shadow_kinds::{has_state, is_hidden};
 use shadow_node::{Forest, Made, NodeEdit, Stamps, find, path_to};
 use std::alloc::{AllocError, Global};
 use tree_build::{ScriptNode, build};
@@ -151,6 +154,33 @@ fn with_state(
     Ok(settled_along(alloc, made, front, front.size, families, &way)?)
 }
 
+/// The stamps after a front, once the node of a tag is changed, and then the forest is settled: the
+/// list has the tags on the way to that node, and those of the nodes that settling changes.
+fn stamps_after_edit(
+    alloc: Global,
+    front: &Content,
+    tag: u32,
+    edited: &Forest,
+    forest: &Forest,
+    tags: &[u32],
+) -> Result<Stamps, AllocError>
+    requires number { front.now.number < 2 ^ 64 - 1 }
+    requires new { IsDistinct nat_eq (tags_of (contents_of forest.now)) }
+    requires change { IsChangeAt tag front.now.forest edited.now forest.now front.now.stamps (front.now.number + 1) tags.now }
+    ensures { IfOk result (AreStampsAfter front.now.forest forest.now front.now.stamps (front.now.number + 1)) }
+{
+    let number = front.number + 1;
+    if let (Some(was), Some(now)) = (find(&front.forest, tag), find(edited, tag)) {
+        if has_same_fields(was, now) {
+            return front.stamps.share();
+        }
+        if is_hidden(was.props()) == is_hidden(now.props()) {
+            return front.stamps.with_each(alloc, tags, number);
+        }
+    }
+    stamps_after(alloc, &front.forest, forest, &front.stamps, number)
+}
+
 /// The content after a change of a node.
 fn with_props(
     alloc: Global,
@@ -167,17 +197,25 @@ fn with_props(
     ensures cancelled { IfErr result (IsFor (cause_in (props_op tag change.now) front.now front.now)) }
     ensures made { IfOk result (λ next. IsMadeFor (props_op tag change.now) front.now front.now next made.old made.new) }
 {
-    let Some(forest) = replace_at(alloc, made, &front.forest, tag, change)? else {
+    let Some(edited) = replace_at(alloc, made, &front.forest, tag, change)? else {
         return Err(PrepareRefusal::Cancel(Cancel::NotMounted { tag }));
     };
-    Ok(settled(
-        alloc,
-        made,
-        front,
-        front.size,
-        front.families.share()?,
-        &forest,
-    )?)
+    let way = path_to(alloc, &front.forest, tag)?.unwrap_or(Vec::new(alloc));
+    let mut tags = Vec::from_slice(alloc, &way)?;
+    let size = SizeChange {
+        before: front.size,
+        after: front.size,
+    };
+    let families = front.families.share()?;
+    let forest = settle_along(alloc, made, &mut tags, &edited, size, &families, &way)?;
+    let stamps = stamps_after_edit(alloc, front, tag, &edited, &forest, &tags)?;
+    Ok(Content {
+        number: front.number + 1,
+        size: front.size,
+        forest,
+        families,
+        stamps,
+    })
 }
 
 /// The content with another size of the surface.

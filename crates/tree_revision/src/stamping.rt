@@ -98,7 +98,7 @@ fn first_of<'a>(places: &[(u32, Place<'a>)], tag: u32) -> Option<Place<'a>>
 }
 
 /// Whether two nodes are equal, but for what is below them.
-fn has_same_fields(was: &ShadowNode, node: &ShadowNode) -> bool
+pub(crate) fn has_same_fields(was: &ShadowNode, node: &ShadowNode) -> bool
     ensures { result ≡ is_same_fields was.now.fields node.now.fields }
 {
     was.tag() == node.tag()

@@ -323,13 +323,32 @@ fn what_changes_is_made_anew_and_all_else_is_shared(rt: HostRuntime) -> Result<(
     Ok(())
 }
 
+/// The four nodes, settled in a surface that is 320 points wide.
+fn settled_four(alloc: Global, made: &mut Made) -> Result<Forest, AllocError>
+    ensures frames { IfOk result AreFramesInBounds }
+    ensures depth { IfOk result (λ settled. depth_of settled ≤ 48) }
+{
+    let forest = four_nodes(alloc, made)?;
+    let none = FamilyTable::empty(alloc)?;
+    settled(alloc, made, &forest, 320, &none)
+}
+
+/// A surface that was 320 points wide, and has that width.
+fn resized(width: i64) -> SizeChange
+    requires low { pos 0 ≤ℤ width }
+    requires high { width ≤ℤ pos 1000000 }
+    ensures { IsSizeInRange result.after }
+{
+    SizeChange {
+        before: surface(320),
+        after: surface(width),
+    }
+}
+
 #[test]
-fn a_way_is_settled_as_the_whole_is(rt: HostRuntime) -> Result<(), Fail> {
+fn the_way_to_a_leaf_of_another_state(rt: HostRuntime) -> Result<(), Fail> {
     let mut made = Made::start(&rt);
-    let forest = four_nodes(rt.alloc(), &mut made)?;
-    let none = FamilyTable::empty(rt.alloc())?;
-    let was = settled(rt.alloc(), &mut made, &forest, 320, &none)?;
-    let narrow = with_width(rt.alloc(), &mut made, &was, 200)?;
+    let was = settled_four(rt.alloc(), &mut made)?;
     let moved = Family {
         kind: 4,
         cell: StateCell {
@@ -337,22 +356,31 @@ fn a_way_is_settled_as_the_whole_is(rt: HostRuntime) -> Result<(), Fail> {
             point: Point { x: 5, y: 6 },
         },
     };
+    let none = FamilyTable::empty(rt.alloc())?;
     let families = none.with(rt.alloc(), &mut made, 3, moved)?;
-    let same = SizeChange {
-        before: surface(320),
-        after: surface(320),
-    };
-    let wider = SizeChange {
-        before: surface(320),
-        after: surface(400),
-    };
-    let at_leaf = tags_along(rt.alloc(), &mut made, &was, same, &families, &[1, 2, 3])?;
-    assert!(rt; are_these(&at_leaf, &[3, 2, 1]), "the state of a leaf");
-    let at_top = tags_along(rt.alloc(), &mut made, &narrow, same, &none, &[1])?;
-    assert!(rt; are_these(&at_top, &[4, 1]), "the size of a node");
-    let around = tags_along(rt.alloc(), &mut made, &was, wider, &none, &[])?;
-    assert!(rt; are_these(&around, &[4, 1]), "the size of the surface");
-    let nowhere = tags_along(rt.alloc(), &mut made, &was, same, &none, &[1, 4])?;
-    assert!(rt; are_these(&nowhere, &[]), "a way on which nothing changes");
+    let size = resized(320);
+    let tags = tags_along(rt.alloc(), &mut made, &was, size, &families, &[1, 2, 3])?;
+    assert!(rt; are_these(&tags, &[3, 2, 1]));
+    Ok(())
+}
+
+#[test]
+fn a_node_of_another_size(rt: HostRuntime) -> Result<(), Fail> {
+    let mut made = Made::start(&rt);
+    let was = settled_four(rt.alloc(), &mut made)?;
+    let narrow = with_width(rt.alloc(), &mut made, &was, 200)?;
+    let none = FamilyTable::empty(rt.alloc())?;
+    let tags = tags_along(rt.alloc(), &mut made, &narrow, resized(320), &none, &[1])?;
+    assert!(rt; are_these(&tags, &[4, 1]), "2 keeps its size, and 3 in it is not entered");
+    Ok(())
+}
+
+#[test]
+fn a_surface_of_another_size(rt: HostRuntime) -> Result<(), Fail> {
+    let mut made = Made::start(&rt);
+    let was = settled_four(rt.alloc(), &mut made)?;
+    let none = FamilyTable::empty(rt.alloc())?;
+    let tags = tags_along(rt.alloc(), &mut made, &was, resized(400), &none, &[])?;
+    assert!(rt; are_these(&tags, &[4, 1]), "2 keeps its size, and 3 in it is not entered");
     Ok(())
 }
