@@ -28,3 +28,4 @@ pub mod Along
 pub mod Renewed
 pub mod EditedWay
 pub mod EditedStamps
+pub mod Places

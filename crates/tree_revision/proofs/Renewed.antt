@@ -2,10 +2,9 @@
 use Rattle.std.proofs.Common.{◌≡◌, ◌≢◌, ℕ, List, [], ◌∷◌, ◌++◌, Bool, true, false, not, cond, ◌||◌, Decides, Option, Some, None, is_some, nat_eq, nat_lt, inl, inr, refl, ap, sym, ◌∙◌, subst, arith}
 use Rattle.std.specs.List.{AllByRecursion, IsDistinct, list_any}
 use Rattle.std.specs.Option.{option_or}
-use Rattle.std.specs.Ordering.{nat_cmp, eq_by_cmp}
 use Rattle.std.specs.Cmp.{nat_cmp_total}
 use Rattle.std.specs.FinMap.{get, insert, get-insert}
-use Rattle.std.proofs.lemmas.Bool.{eqb-true, eqb-false, false≢true}
+use Rattle.std.proofs.lemmas.Bool.{eqb-true, false≢true}
 use Rattle.std.proofs.lemmas.Bool.Decides.{nat_tests}
 use Rattle.std.proofs.lemmas.List.Folds.{list_any-append}
 use Rattle.shadow_frame.specs.declared.Size.{Size}
@@ -16,18 +15,18 @@ use Rattle.shadow_node.specs.Find.{first_settled}
 use Rattle.shadow_node.specs.Frames.{frame_in, settled_forest}
 use Rattle.shadow_node.specs.Seen.{sight_of}
 use Rattle.shadow_node.specs.Stamps.{StampMap, all_stamped}
-use Rattle.clone_path.proofs.Tags.{all_tags, all_tags-node, each_in_first, each_in_second, none_found, found_here, found_past, found_apart}
+use Rattle.clone_path.proofs.Tags.{all_tags, all_tags-node, each_in_first, each_in_second, none_found, found_apart}
 use Rattle.clone_path.proofs.OneNode.{differ_below}
 use Rattle.tree_settle.specs.Along.{tag_when, changed_tags}
 use Rattle.tree_settle.specs.Changes.{is_settled, changes_with, changes_in}
 use Rattle.tree_settle.specs.Walk.{fields_in, settled_in}
 use Rattle.tree_settle.proofs.Settled.{settled_below-in}
+use Rattle.tree_settle.proofs.Unchanged.{none_changes-settled_tree, settled_tree-none_changes}
 use Rattle.tree_revision.specs.ForestStamps.{HasTagsOf, IsStampAfter, AreStampsAfter}
-use Rattle.tree_revision.specs.Unchanged.{SeenNode, shown_here, seen_below}
+use Rattle.tree_revision.specs.Unchanged.{shown_here, seen_below}
 use Rattle.tree_revision.proofs.Counts.{ties-nat_eq}
 use Rattle.tree_revision.proofs.Seen.{same_sights, second_of}
 use Rattle.tree_revision.proofs.Upward.{some_or}
-use Rattle.tree_revision.proofs.Unsettled.{IsSettled, tree_where_none, none_of_settled}
 
 -- whether a tag is among some
 abbrev pub is_among : ℕ → List ℕ → Bool
@@ -89,10 +88,10 @@ module _ (newest : ℕ → StateCell) (tag : ℕ) where
       elim (nat_eq f.fields.tag tag) as (λ b. nat_eq f.fields.tag tag ≡ b
       → cond b (Some (record { tree = record { fields = f; children = k }; shown = here })) (option_or (seen_below here tag k) (seen_below above tag s))
       ≡ cond b (Some (record { tree = record { fields = fields_in parent newest f.fields; children = settled_in size newest (contents_of k) }; shown = here }))
-        (option_or (seen_below here tag (settled_in size newest (contents_of k))) (seen_below above tag (settled_in parent newest (contents_of s))))) [
+      (option_or (seen_below here tag (settled_in size newest (contents_of k))) (seen_below above tag (settled_in parent newest (contents_of s))))) [
         | true ↦ λ same. let stays = not_before (nat_lt 0 many) tag f.fields.tag (changed_tags parent newest s) same parts.1 in
-            let tree = tree_where_none parent newest f k (none_below many stays) in
-            λ i. Some (record { tree = record { fields = tree.0 i; children = tree.1 i }; shown = here })
+            let tree = settled_tree-none_changes parent newest (record { fields = f; children = k }) (none_below many stays) in
+            λ i. Some (record { tree = tree i; shown = here })
         | false ↦ λ other i. option_or (seen_alike size here k parts.0 i)
             (seen_alike parent above s (none_after (nat_lt 0 many) tag f.fields.tag (changed_tags parent newest s) parts.1) i)
       ] refl
@@ -167,7 +166,7 @@ module _ (newest : ℕ → StateCell) (tag : ℕ) where
             let was : PlainNode SettledFields = record { fields = f; children = k } in
             let new : PlainNode SettledFields = record { fields = fields_in parent newest f.fields; children = k_new } in
             let tree : was ≡ new = cc in
-            let stays : many ≡ 0 = none_of_settled parent newest f k (ap (λ t. t.fields) tree) (ap (λ t. t.children) tree) in
+            let stays : many ≡ 0 = none_changes-settled_tree parent newest was tree in
             let last : is_among tag (tag_when (nat_lt 0 many) f.fields.tag later) ≡ true = second _ _ no_child either in
             false≢true (sym no_later ∙ sym (ap (λ n. is_among tag (tag_when (nat_lt 0 n) f.fields.tag later)) stays) ∙ last)
         | false ↦ λ other is. elim (is_among tag (changed_tags size newest k)) as (λ b. is_among tag (changed_tags size newest k) ≡ b → ⊥) [
@@ -191,9 +190,9 @@ same_once_settled size newest tag forest differ =
     let same : settled_in size newest (contents_of forest) ≡ new = sym (settled_below-in size newest [] (contents_of forest)) in
     elim (is_among tag (changed_tags size newest forest)) as (λ b. is_among tag (changed_tags size newest forest) ≡ b → Decides (not b) (sight_of forest tag ≡ sight_of new tag)) [
       | true ↦ λ among. (
-          λ no. absurd (false≢true no),
-          λ alike. absurd (changed_other newest tag size forest differ among (ap (λ sight. sight.tree) alike ∙ ap (first_settled tag) (sym same))),
-        )
+        λ no. absurd (false≢true no),
+        λ alike. absurd (changed_other newest tag size forest differ among (ap (λ sight. sight.tree) alike ∙ ap (first_settled tag) (sym same))),
+      )
       | false ↦ λ off. (λ _. same_sights tag forest new (seen_alike newest tag size true forest off ∙ ap (seen_below true tag) same), λ _. refl)
     ] refl
 
@@ -234,9 +233,9 @@ stamps_renewed size newest forest new before after number tags differ mounted ne
     is_stamp : (tag stamp : ℕ) → cond (changed tag) (Some number) (get before tag) ≡ Some stamp → IsStampAfter forest settled before number tag stamp
     is_stamp tag stamp = elim (changed tag) as (λ b. Decides (not b) (sight_of forest tag ≡ sight_of settled tag)
         → cond b (Some number) (get before tag) ≡ Some stamp → IsStampAfter forest settled before number tag stamp) [
-      | true ↦ λ alike found. let is : number ≡ stamp = cc in inr (λ same. false≢true (alike.1 same), sym is)
-      | false ↦ λ alike found. inl (alike.0 refl, found)
-    ] (same_once_settled size newest tag forest differ)
+          | true ↦ λ alike found. let is : number ≡ stamp = cc in inr (λ same. false≢true (alike.1 same), sym is)
+          | false ↦ λ alike found. inl (alike.0 refl, found)
+        ] (same_once_settled size newest tag forest differ)
 
     are : AreStampsAfter forest settled before number (all_stamped before number (changed_tags size newest forest))
     are = record {

@@ -2,10 +2,11 @@
 use Rattle.std.specs.Prelude.{◌≡◌, ◌≢◌, ℕ, List, [], ◌∷◌, ◌++◌, Bool, true, not, ◌&&◌, nat_eq, if◌then◌else◌, Option, Some, None, refl}
 use Rattle.std.specs.Coded.{Coded, code_by, coded×, coded_ℕ}
 use Rattle.std.specs.List.{AllByRecursion}
+use Rattle.std.specs.List.Sorted.{IsNonDecreasingBy}
 use Rattle.std.specs.Option.{option_eq, option_map, option_or}
 use Rattle.std.specs.Ordering.{nat_cmp}
-use Rattle.std.specs.BTreeMap.{BTreeMap, get}
 use Rattle.std.specs.FinMap as map
+use Rattle.std.specs.FinMap.{find}
 use Rattle.std.specs.Cmp.Lexicographic.{pointwise}
 use Rattle.shadow_frame.specs.Same.{is_same_frame}
 use Rattle.native_state.specs.Same.{is_same_cell}
@@ -92,13 +93,14 @@ AreStampsIn change pairs = AllByRecursion (IsStampIn change) pairs
 abbrev pub seen_place : Place → SeenNode
 seen_place place = record { tree = place.node.now.value; shown = place.shown }
 
--- what places have at a tag
-abbrev pub seen_by : BTreeMap ℕ Place → ℕ → Option SeenNode
-seen_by places tag = option_map seen_place (get nat_cmp places tag)
+-- what the first of a tag in a list of places with their tags shows
+abbrev pub seen_by : List (ℕ × Place) → ℕ → Option SeenNode
+seen_by places tag = option_map seen_place (find nat_cmp tag places)
 
--- each tag of a forest has its first node there
-abbrev pub ArePlacesOf : BTreeMap ℕ Place → PlainForest SettledFields → Type 0
-ArePlacesOf places forest = (tag : ℕ) → seen_by places tag ≡ seen_below true tag forest
+-- places in the order of their tags, of which each has the first node that a forest has of it
+pub record ArePlacesOf (places : List (ℕ × Place)) (forest : PlainForest SettledFields) : Type 0 where
+  pub in_order : IsNonDecreasingBy (λ place. place.0) places
+  pub seen : (tag : ℕ) → seen_by places tag ≡ seen_below true tag forest
 
 -- a change of the node of one tag, which leads from an old forest to an edited one, and by settling to a new one: where that node stays the same, the forest does; and where it is another that is hidden as before, the tags of a list get the new number, and all others keep their stamps
 pub record IsChangeAt (tag : ℕ) (old edited new : PlainForest SettledFields) (before : StampMap) (number : ℕ) (tags : List ℕ) : Type 0 where

@@ -151,9 +151,7 @@ fn with_state(
     }
     let families = changed(alloc, made, &front.families, tag, change)?;
     let way = path_to(alloc, &front.forest, tag)?.unwrap_or(Vec::new(alloc));
-    Ok(settled_along(
-        alloc, made, front, front.size, families, &way,
-    )?)
+    Ok(settled_along(alloc, made, front, front.size, families, &way)?)
 }
 
 /// The stamps after a front, once the node of a tag is changed, and then the forest is settled: the

@@ -3,10 +3,12 @@
 //! Nodes are compared by what they are made of, and not by where they lie in memory. One walk over
 //! the new forest, from the leaves up, finds which of its nodes stand as they did.
 
-ghost use Rattle.std.specs.Prelude.{◌≡◌, ℕ, ◌++◌, true, Decides, Some, None, map, nat_eq, if◌then◌else◌, IfOk, OnOk, unwrap_or};
+ghost use Rattle.std.specs.Prelude.{◌≡◌, ◌≤◌, ℕ, ◌++◌, length, take, drop, true, Decides, IsTrue, Some, None, map, nat_eq, if◌then◌else◌, IfOk, OnOk, unwrap_or};
 ghost use Rattle.std.specs.FinMap as maps;
 ghost use Rattle.std.specs.List.{IsDistinct};
+ghost use Rattle.std.specs.List.Sorted.{IsNonDecreasingBy};
 ghost use Rattle.std.specs.Option.{option_map, option_or};
+ghost use Rattle.page_map.specs.Rising.{AreBelow, AreFrom};
 ghost use Rattle.shadow_node.specs.Forest.{PlainForest};
 ghost use Rattle.shadow_node.specs.Fields.{SettledFields, contents_of, tags_of};
 ghost use Rattle.shadow_node.specs.Find.{first_settled};
@@ -16,7 +18,6 @@ ghost use Rattle.tree_revision.specs.Unchanged.{seen_below, shown_here, AreSeenI
 use shadow_kinds::{have_same_rows, is_hidden};
 use shadow_node::{Forest, NodeRef, ShadowNode, Stamps};
 use std::alloc::{AllocError, Global};
-use std::collections::BTreeMap;
 use std::marker::Model;
 
 /// A node of the old forest, and whether it is shown.
@@ -26,17 +27,14 @@ struct Place<'a> {
     shown: bool,
 }
 
-/// Places by their tags.
-type Places<'a> = BTreeMap<u32, Place<'a>>;
+/// Places with the tags of their nodes.
+type Places<'a> = Vec<(u32, Place<'a>)>;
 
-/// Adds the place of a node, where its tag has none yet.
+/// Adds the place of a node.
 fn add<'a>(places: &mut Places<'a>, node: &'a NodeRef, shown: bool) -> Result<(), AllocError>
-    ensures { OnOk result ((tag : ℕ) → seen_by places.new tag ≡ option_or (seen_by places.old tag) (if nat_eq node.now.value.fields.fields.tag tag then Some (record { tree = node.now.value; shown = shown }) else None)) }
+    ensures { OnOk result ((tag : ℕ) → seen_by places.new.items tag ≡ option_or (seen_by places.old.items tag) (if nat_eq node.now.value.fields.fields.tag tag then Some (record { tree = node.now.value; shown = shown }) else None)) }
 {
-    let tag = node.tag();
-    if !places.contains_key(&tag) {
-        places.insert(tag, Place { node, shown })?;
-    }
+    places.push((node.tag(), Place { node, shown }))?;
     Ok(())
 }
 
@@ -47,9 +45,9 @@ fn is_shown_here(above: bool, node: &ShadowNode) -> bool
     above && !is_hidden(node.props())
 }
 
-/// Adds the places of a forest in preorder, each where its tag has none yet.
+/// Adds the places of a forest in preorder.
 fn add_all<'a>(places: &mut Places<'a>, forest: &'a Forest, above: bool) -> Result<(), AllocError>
-    ensures { OnOk result ((tag : ℕ) → seen_by places.new tag ≡ option_or (seen_by places.old tag) (seen_below above tag forest.now)) }
+    ensures { OnOk result ((tag : ℕ) → seen_by places.new.items tag ≡ option_or (seen_by places.old.items tag) (seen_below above tag forest.now)) }
 {
     for node in forest.nodes() {
         let shown = is_shown_here(above, node);
@@ -57,6 +55,46 @@ fn add_all<'a>(places: &mut Places<'a>, forest: &'a Forest, above: bool) -> Resu
         add_all(places, node.children(), shown)?;
     }
     Ok(())
+}
+
+/// Whether no tag is above the next one.
+fn are_in_order(places: &[(u32, Place<'_>)]) -> bool
+    ensures { IsTrue result → IsNonDecreasingBy (λ place. place.0) places.now }
+{
+    places.is_sorted_by_key(|place| place.0)
+}
+
+/// Puts places in the order of their tags, and those of one tag as they stand.
+fn put_in_order<'a>(places: &mut Places<'a>) -> Result<(), AllocError>
+    ensures in_order { OnOk result (IsNonDecreasingBy (λ place. place.0) places.new.items) }
+    ensures seen { OnOk result ((tag : ℕ) → seen_by places.new.items tag ≡ seen_by places.old.items tag) }
+{
+    if !are_in_order(places) {
+        places.sort_by_key(|place| place.0)?;
+    }
+    Ok(())
+}
+
+/// How many of the places have tags below this one.
+fn index_of(places: &[(u32, Place<'_>)], tag: u32) -> usize
+    requires { IsNonDecreasingBy (λ place. place.0) places.now }
+    ensures index { result ≤ length places.now }
+    ensures below { AreBelow tag (take result places.now) }
+    ensures rest { AreFrom tag (drop result places.now) }
+{
+    places.partition_point(|place| place.0 < tag)
+}
+
+/// The first place of a tag among places in the order of their tags.
+fn first_of<'a>(places: &[(u32, Place<'a>)], tag: u32) -> Option<Place<'a>>
+    requires { IsNonDecreasingBy (λ place. place.0) places.now }
+    ensures { option_map seen_place result ≡ seen_by places.now tag }
+{
+    let (_, rest) = places.split_at(index_of(places, tag));
+    match rest.split_first() {
+        Some((first, _)) if first.0 == tag => Some(first.1),
+        _ => None,
+    }
 }
 
 /// Whether two nodes are equal, but for what is below them.
@@ -116,7 +154,7 @@ impl<'a> Model for Stamping<'a> {
 
     ghost view = { λ s. record { old = s.old.now; new = s.new.now; before = s.before.now; number = s.number } };
 
-    ghost invariant = { λ s. ArePlacesOf s.places s.old.now };
+    ghost invariant = { λ s. ArePlacesOf s.places.items s.old.now };
 }
 
 impl<'a> Stamping<'a> {
@@ -129,8 +167,9 @@ impl<'a> Stamping<'a> {
     ) -> Result<Stamping<'a>, AllocError>
         ensures { IfOk result (λ stamping. stamping ≡ record { old = old.now; new = new.now; before = before.now; number = number }) }
     {
-        let mut places = BTreeMap::new(alloc);
+        let mut places = Vec::new(alloc);
         add_all(&mut places, old, true)?;
+        put_in_order(&mut places)?;
         Ok(Stamping {
             old,
             new,
@@ -144,7 +183,7 @@ impl<'a> Stamping<'a> {
     fn find(&self, tag: u32) -> Option<Place<'a>>
         ensures { option_map seen_place result ≡ seen_below true tag self.now.old }
     {
-        self.places.get(&tag).copied()
+        first_of(&self.places, tag)
     }
 
     /// The stamp that a tag had, or the number of the commit where it had none.

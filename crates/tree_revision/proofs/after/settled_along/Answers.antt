@@ -1,4 +1,4 @@
-use Rattle.std.proofs.Common.{◌≡◌, ◌+◌, List, [], ◌++◌, sym, ap, subst, ◌∙◌, arith}
+use Rattle.std.proofs.Common.{◌+◌, ◌++◌, sym, ap, subst, ◌∙◌, arith}
 use Rattle.native_state.specs.Families.{cell_in}
 use Rattle.shadow_node.specs.Fields.{SettledFields, contents_of}
 use Rattle.shadow_node.proofs.Maps.{depth_of-forest_map}

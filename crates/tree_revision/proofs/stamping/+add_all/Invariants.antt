@@ -11,7 +11,7 @@ decreases-add_all l = goal.size-add_all l
 abbrev pub invariant-loop-node : goal.invariant-loop-node
 invariant-loop-node l = record {
   whole : forest_at l.node-items ≡ l.forest;
-  left : (tag : ℕ) → option_or (seen_by l.places tag) (seen_below l.above tag (forest_at (drop l.node-index l.node-items)))
-      ≡ option_or (seen_by l.initial.places tag) (seen_below l.above tag l.forest);
+  left : (tag : ℕ) → option_or (seen_by l.places.items tag) (seen_below l.above tag (forest_at (drop l.node-index l.node-items)))
+      ≡ option_or (seen_by l.initial.places.items tag) (seen_below l.above tag l.forest);
   within : node_count (forest_at (drop l.node-index l.node-items)) ≤ node_count l.forest;
 }
