@@ -84,7 +84,7 @@ tags_pushed parent newest left next tree tags more whole l m w =
     ap (λ list. list ++ after) m
     ∙ append_assoc tags (below ++ tag_when changes tree.fields.fields.tag []) after
     ∙ ap (λ list. tags ++ list)
-        (append_assoc below (tag_when changes tree.fields.fields.tag []) after ∙ ap (λ list. below ++ list) (sym (tag_before changes tree.fields.fields.tag after)))
+    (append_assoc below (tag_when changes tree.fields.fields.tag []) after ∙ ap (λ list. below ++ list) (sym (tag_before changes tree.fields.fields.tag after)))
     ∙ ap (λ forest. tags ++ changed_tags parent newest forest) (sym l)
     ∙ w
 

@@ -28,7 +28,7 @@ IsSettledBut parent newest way none = Unit {0}
 IsSettledBut parent newest way (node settled children siblings) =
     (leads_to way settled.fields.tag ≡ true → IsSettledBut settled.frame.size newest (way_below way) children)
     × (leads_to way settled.fields.tag ≡ false
-      → record { fields = settled; children = children } ≡ settled_tree parent newest (record { fields = settled; children = children }))
+    → record { fields = settled; children = children } ≡ settled_tree parent newest (record { fields = settled; children = children }))
     × IsSettledBut parent newest way siblings
 
 -- the same of one tree
@@ -48,8 +48,8 @@ changed_tags parent newest none = []
 changed_tags parent newest (node settled children siblings) =
     changed_tags (frame_in parent settled.fields).size newest children
     ++ tag_when
-        (nat_lt 0 (changes_with (is_settled parent newest settled) (changes_in (frame_in parent settled.fields).size newest children)))
-        settled.fields.tag (changed_tags parent newest siblings)
+    (nat_lt 0 (changes_with (is_settled parent newest settled) (changes_in (frame_in parent settled.fields).size newest children)))
+    settled.fields.tag (changed_tags parent newest siblings)
 
 -- the tags of the nodes of one tree that change
 abbrev pub changed_tags_of : Size → (newest : ℕ → StateCell) → PlainNode SettledFields → List ℕ

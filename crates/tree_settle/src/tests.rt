@@ -14,8 +14,7 @@ ghost use Rattle.tree_settle.specs.Limits.{AreFramesInBounds, IsForestInLimits, 
 ghost use Rattle.tree_settle.specs.Walk.{fields_in};
 
 use crate::along::way_under;
-use crate::node;
-use crate::{SizeChange, settle, settle_along};
+use crate::{SizeChange, node, settle, settle_along};
 use native_state::{Family, FamilyTable, StateCell};
 use prop_table::{Label, NodeProps, node_table, rows};
 use shadow_frame::{Point, Rect, Size};
@@ -193,12 +192,7 @@ fn is_right(is_on_way: bool, node: &ShadowNode, parent: Size, families: &FamilyT
 
 /// Whether a node is settled with all below it, but for the nodes on a way.
 #[cycle(settled_but)]
-fn is_tree_settled_but(
-    node: &ShadowNode,
-    parent: Size,
-    families: &FamilyTable,
-    way: &[u32],
-) -> bool
+fn is_tree_settled_but(node: &ShadowNode, parent: Size, families: &FamilyTable, way: &[u32]) -> bool
     ensures { result ≡ true → IsTreeSettledBut parent (cell_in families.now) way.now node.now }
 {
     let (is_on_way, below) = way_under(way, node);
@@ -371,7 +365,10 @@ fn a_node_of_another_size(rt: HostRuntime) -> Result<(), Fail> {
     let narrow = with_width(rt.alloc(), &mut made, &was, 200)?;
     let none = FamilyTable::empty(rt.alloc())?;
     let tags = tags_along(rt.alloc(), &mut made, &narrow, resized(320), &none, &[1])?;
-    assert!(rt; are_these(&tags, &[4, 1]), "2 keeps its size, and 3 in it is not entered");
+    assert!(rt;
+        are_these(&tags, &[4, 1]),
+        "2 keeps its size, and 3 in it is not entered"
+    );
     Ok(())
 }
 
@@ -381,6 +378,9 @@ fn a_surface_of_another_size(rt: HostRuntime) -> Result<(), Fail> {
     let was = settled_four(rt.alloc(), &mut made)?;
     let none = FamilyTable::empty(rt.alloc())?;
     let tags = tags_along(rt.alloc(), &mut made, &was, resized(400), &none, &[])?;
-    assert!(rt; are_these(&tags, &[4, 1]), "2 keeps its size, and 3 in it is not entered");
+    assert!(rt;
+        are_these(&tags, &[4, 1]),
+        "2 keeps its size, and 3 in it is not entered"
+    );
     Ok(())
 }
