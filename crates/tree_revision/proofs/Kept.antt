@@ -1,18 +1,16 @@
 -- Which tags keep their stamps.
-use Rattle.std.proofs.Common.{◌≡◌, ◌≢◌, ℕ, List, [], ◌∷◌, ◌++◌, Bool, true, false, ◌&&◌, Decides, Option, Some, None, is_some, inl, inr, refl, ap, sym, ◌∙◌, subst, append_assoc}
+use Rattle.std.proofs.Common.{◌≡◌, ℕ, Bool, true, false, Decides, Option, Some, None, is_some, inl, inr, refl, ap, sym, ◌∙◌}
 use Rattle.std.specs.Prelude.{unwrap_or}
-use Rattle.std.specs.List.{AllByRecursion}
 use Rattle.std.specs.Option.{option_map}
 use Rattle.std.specs.FinMap.{get}
 use Rattle.std.proofs.lemmas.Bool.{false≢true}
 use Rattle.std.proofs.Math.Bool.{beq}
-use Rattle.shadow_node.specs.Forest.{PlainForest, none, node, PlainNode}
+use Rattle.shadow_node.specs.Forest.{PlainForest, PlainNode}
 use Rattle.shadow_node.specs.Fields.{SettledFields}
 use Rattle.shadow_node.specs.Find.{first_settled}
-use Rattle.shadow_node.specs.Seen.{sight_of}
 use Rattle.shadow_node.specs.Stamps.{StampMap}
 use Rattle.tree_revision.specs.ForestStamps.{HasTagsOf, IsStampAfter}
-use Rattle.tree_revision.specs.Unchanged.{SeenNode, seen_below, seen_place, AreSeenIn, DoTreesStandIn}
+use Rattle.tree_revision.specs.Unchanged.{SeenNode, seen_below, seen_place}
 use Rattle.tree_revision.specs.declared.stamping.Place.{Place}
 use Rattle.tree_revision.proofs.Seen.{tree_seen, same_sights, same_seen, is_some_seen}
 

@@ -1,5 +1,5 @@
 -- Stamps after one more record.
-use Rattle.std.proofs.Common.{◌≡◌, ◌≢◌, ℕ, ◌+◌, ◌≤◌, ◌<◌, List, [], ◌∷◌, ◌++◌, length, length-append, take, take_all, Some, None, is_some, inl, inr, arith, refl, ap, sym, ◌∙◌, subst}
+use Rattle.std.proofs.Common.{◌≡◌, ◌≢◌, ℕ, ◌+◌, ◌≤◌, List, [], ◌∷◌, ◌++◌, length, length-append, take_all, Some, None, is_some, inl, inr, arith, ap, sym, ◌∙◌, subst}
 use Rattle.std.specs.Prelude.{IsSome}
 use Rattle.std.specs.Ordering.{nat_cmp}
 use Rattle.std.specs.FinMap as map
@@ -14,7 +14,7 @@ use Rattle.shadow_node.specs.Stamps.{StampMap}
 use Rattle.tree_revision.specs.Records.{PlainRecord}
 use Rattle.tree_revision.specs.Forests.{settled_of}
 use Rattle.tree_revision.specs.ForestStamps.{HasTagsOf, IsStampAfter, AreStampsAfter}
-use Rattle.tree_revision.specs.Stamps.{seen_at, IsUnchangedFrom, IsStamp, AreStampsOf}
+use Rattle.tree_revision.specs.Stamps.{seen_at, IsStamp, AreStampsOf}
 
 -- what the newest revision shows
 seen_newest : (first : Size) (entries : List PlainRecord) (tag : ℕ) → seen_at first entries (length entries) tag ≡ sight_of (settled_of first entries) tag

@@ -7,7 +7,7 @@ use Rattle.std.specs.FinMap as map
 use Rattle.shadow_frame.specs.declared.Size.{Size}
 use Rattle.native_state.specs.declared.StateCell.{StateCell}
 use Rattle.native_state.specs.State.{cell_from}
-use Rattle.shadow_node.specs.Forest.{PlainForest, none, preorder}
+use Rattle.shadow_node.specs.Forest.{PlainForest, preorder}
 use Rattle.shadow_node.specs.Fields.{SettledFields, contents_of}
 use Rattle.shadow_node.specs.Frames.{settled_forest}
 use Rattle.shadow_node.specs.Stamps.{StampMap}

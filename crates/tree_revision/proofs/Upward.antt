@@ -2,9 +2,9 @@
 use Rattle.std.proofs.Common.{◌≡◌, ◌≢◌, ℕ, List, [], ◌∷◌, ◌++◌, All, map, Bool, true, false, cond, ◌||◌, Option, Some, None, is_some, nat_eq, refl, ap, sym, ◌∙◌, subst, arith}
 use Rattle.std.specs.List.{AllByRecursion, IsDistinct, list_any}
 use Rattle.std.specs.Option.{option_or}
-use Rattle.std.specs.Ordering.{nat_cmp, eq_by_cmp}
+use Rattle.std.specs.Ordering.{nat_cmp}
 use Rattle.std.specs.Cmp.{nat_cmp_total}
-use Rattle.std.specs.FinMap.{find, get, from_entries, get-from_entries}
+use Rattle.std.specs.FinMap.{find, from_entries, get-from_entries}
 use Rattle.std.specs.List.Sorted.{IsPermutation}
 use Rattle.std.proofs.lemmas.List.Sorted.{IsPermutation-refl, IsPermutation-sym, IsPermutation-trans, IsPermutation-cons, IsPermutation-middle, IsPermutation-append_left, IsPermutation-append_right}
 use Rattle.std.proofs.lemmas.List.Elements.{All-nil, All-cons}
@@ -15,9 +15,9 @@ use Rattle.std.proofs.lemmas.Bool.{eqb-true, eqb-false}
 use Rattle.shadow_node.specs.Forest.{PlainForest, none, node}
 use Rattle.shadow_node.specs.Fields.{SettledFields}
 use Rattle.shadow_node.specs.Find.{first_settled}
-use Rattle.shadow_node.specs.Stamps.{StampMap, DoTagsDiffer}
+use Rattle.shadow_node.specs.Stamps.{DoTagsDiffer}
 use Rattle.clone_path.proofs.Tags.{all_tags, all_tags-node}
-use Rattle.tree_revision.specs.ForestStamps.{HasTagsOf, AreStampsAfter}
+use Rattle.tree_revision.specs.ForestStamps.{AreStampsAfter}
 use Rattle.tree_revision.specs.Unchanged.{tags_upward, StampChange, IsStampIn, AreStampsIn}
 use Rattle.tree_revision.proofs.Counts.{nat_eq-turned, ties-nat_eq}
 

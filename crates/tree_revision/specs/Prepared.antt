@@ -1,5 +1,5 @@
 -- The revision after a change, as the code makes it: from the front and from the held revision. Only contracts inside the crate cite it.
-use Rattle.std.specs.Prelude.{ℕ, ◌+◌, List, [], ◌∷◌, length, map, filter, nat_eq, nat_lt, is_none, if◌then◌else◌, Option, Some, None, option_and_then, unwrap_or, ◌*◌}
+use Rattle.std.specs.Prelude.{ℕ, ◌+◌, List, [], ◌∷◌, length, map, filter, nat_eq, nat_lt, is_none, if◌then◌else◌, Option, Some, None, option_and_then, unwrap_or}
 use Rattle.std.specs.Option.{option_map, option_or}
 use Rattle.std.specs.Ordering.{nat_cmp}
 use Rattle.std.specs.FinMap.{FinMap, get, insert, len}
@@ -9,17 +9,15 @@ use Rattle.native_state.specs.State.{start_cell, cell_after}
 use Rattle.page_map.specs.Entries.{all_added}
 use Rattle.native_state.specs.Families.{cell_in}
 use Rattle.shadow_kinds.specs.Words.{code_of}
-use Rattle.shadow_node.specs.Forest.{PlainForest, none, preorder}
-use Rattle.shadow_node.specs.Fields.{NodeFields, SettledFields, contents_of}
-use Rattle.shadow_node.specs.Find.{first_with, way_to}
+use Rattle.shadow_node.specs.Forest.{preorder}
+use Rattle.shadow_node.specs.Fields.{NodeFields, contents_of}
+use Rattle.shadow_node.specs.Find.{first_with}
 use Rattle.shadow_node.specs.Frames.{settled_forest}
 use Rattle.shadow_node.specs.Stamps.{StampMap}
 use Rattle.tree_build.specs.Script.{ScriptForest}
 use Rattle.tree_build.specs.Resolved.{resolved}
 use Rattle.tree_build.specs.Refusals.{build_refusal_of}
-use Rattle.tree_build.specs.Built.{built, made_for}
-use Rattle.tree_settle.specs.Changes.{changes_in}
-use Rattle.tree_revision.specs.Records.{PlainOp, complete, state, props, resize, stop, suspend, resume}
+use Rattle.tree_revision.specs.Records.{PlainOp, complete, state, props, resize, suspend, resume}
 use Rattle.tree_revision.specs.Cancels.{cancel_for, state_cancel, props_cancel}
 use Rattle.tree_revision.specs.ForestStamps.{AreStampsAfter}
 use Rattle.tree_revision.specs.Settled.{SettledRevision, KeptRevision}

@@ -15,7 +15,6 @@ use Rattle.shadow_node.specs.Frames.{settled_forest}
 use Rattle.shadow_node.specs.Stamps.{StampMap}
 use Rattle.tree_build.specs.declared.builds.BuildRefusal.{BuildRefusal}
 use Rattle.tree_build.specs.declared.builds.BuildRefusal.TheVariants.{Unkept as BuildUnkept, ChildOfLeaf as BuildChildOfLeaf, TwiceTag as BuildTwiceTag, TooDeep as BuildTooDeep, TooManyNodes as BuildTooManyNodes, Memory as BuildMemory}
-use Rattle.tree_revision.specs.Records.{PlainOp}
 use Rattle.tree_revision.specs.Settled.{SettledRevision}
 use Rattle.tree_revision.specs.Prepared.{new_nodes, first_family, other_kind, too_many_families}
 use Rattle.tree_revision.specs.declared.record.Cancel.{Cancel}

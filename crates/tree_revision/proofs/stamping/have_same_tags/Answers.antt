@@ -1,4 +1,4 @@
-use Rattle.std.proofs.Common.{◌≡◌, suc, false, List, [], ◌∷◌, length, refl, ap, sym, ◌∙◌}
+use Rattle.std.proofs.Common.{◌≡◌, suc, List, [], ◌∷◌, length, refl, ap, sym, ◌∙◌}
 use Rattle.std.proofs.lemmas.Bool.{false≢true}
 use Rattle.shadow_node.specs.Falls.{Shared, forest_at}
 use Rattle.tree_revision.specs.Unchanged.{top_tags}

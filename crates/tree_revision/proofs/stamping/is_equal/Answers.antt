@@ -1,4 +1,4 @@
-use Rattle.std.proofs.Common.{◌≡◌, true, Decides, false, sym, ap, subst, ◌∙◌}
+use Rattle.std.proofs.Common.{◌≡◌, true, Decides, sym, subst, ◌∙◌}
 use Rattle.std.proofs.lemmas.Bool.{false≢true}
 use Rattle.tree_revision.specs.Unchanged.{DoTreesStandIn, top_tags}
 use Rattle.tree_revision.proofs.Alike.{same_nodes, same_fields}

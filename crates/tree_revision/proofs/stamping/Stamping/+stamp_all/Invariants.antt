@@ -1,4 +1,4 @@
-use Rattle.std.proofs.Common.{◌≡◌, true, ℕ, ◌≤◌, ◌++◌, drop, map}
+use Rattle.std.proofs.Common.{◌≡◌, true, ◌≤◌, ◌++◌, drop, map}
 use Rattle.shadow_node.specs.Forest.{node_count}
 use Rattle.shadow_node.specs.Falls.{forest_at}
 use Rattle.tree_revision.specs.Unchanged.{AreSeenIn, DoTreesStandIn, AreStampsIn, tags_upward}

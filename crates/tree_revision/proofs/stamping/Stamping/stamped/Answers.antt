@@ -1,12 +1,10 @@
-use Rattle.std.proofs.Common.{◌≡◌, true, false, Decides, Some, None, refl, sym, ap, subst, ◌∙◌}
+use Rattle.std.proofs.Common.{◌≡◌, true, Decides, Some, None, sym, ap, subst, ◌∙◌}
 use Rattle.std.specs.Prelude.{unwrap_or}
 use Rattle.std.specs.Option.{option_map}
 use Rattle.std.specs.FinMap.{get}
 use Rattle.std.proofs.lemmas.Bool.{false≢true}
-use Rattle.shadow_node.specs.Forest.{PlainNode}
-use Rattle.shadow_node.specs.Fields.{SettledFields}
 use Rattle.shadow_node.specs.Find.{first_settled}
-use Rattle.tree_revision.specs.Unchanged.{SeenNode, seen_below, seen_place, DoTreesStandIn, IsStampIn}
+use Rattle.tree_revision.specs.Unchanged.{seen_below, seen_place, DoTreesStandIn, IsStampIn}
 use Rattle.tree_revision.proofs.Alike.{below_stand}
 use Rattle.tree_revision.proofs.Kept.{found_place, same_flags, other_flags, decides_first, decides_none, stamp_stays, stamp_begins, stamp_renews}
 use Rattle.tree_revision.proofs.stamping.Stamping.stamped.Goals as goal
