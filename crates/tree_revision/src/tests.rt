@@ -1,6 +1,6 @@
 //! Changes of a small surface, one after another.
 
-ghost use Rattle.std.specs.Prelude.{◌≡◌, ◌≤◌, ◌<◌, ◌^◌, [], ◌∷◌, IfOk};
+ghost use Rattle.std.specs.Prelude.{◌≡◌, ◌≤◌, ◌<◌, ◌^◌, [], ◌∷◌, IfOk, OnOk};
 ghost use Rattle.prop_table.specs.Table.{AreNodeProps};
 ghost use Rattle.shadow_node.specs.InRange.{IsTagInRange, IsEditInRange};
 ghost use Rattle.tree_build.specs.Script.{ScriptForest, no_more, in_front, script_forest};
