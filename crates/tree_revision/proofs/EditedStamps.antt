@@ -1,5 +1,5 @@
 -- The stamps after a change of the node of one tag.
-use Rattle.std.proofs.Common.{◌≡◌, ◌≢◌, ℕ, List, [], ◌++◌, Bool, true, false, cond, not, ◌||◌, Decides, Option, Some, None, is_some, nat_eq, inl, inr, refl, ap, sym, ◌∙◌, subst}
+use Rattle.std.proofs.Common.{◌≡◌, ◌≢◌, ℕ, List, [], ◌++◌, Bool, true, false, cond, not, ◌||◌, Decides, Some, is_some, nat_eq, inl, inr, refl, ap, sym, ◌∙◌, subst}
 use Rattle.std.specs.Prelude.{Result, Ok, Err, IfOk}
 use Rattle.std.specs.declared.alloc.AllocError.{AllocError}
 use Rattle.std.specs.List.{IsDistinct}
@@ -11,12 +11,11 @@ use Rattle.shadow_frame.specs.declared.Size.{Size}
 use Rattle.native_state.specs.declared.StateCell.{StateCell}
 use Rattle.shadow_kinds.specs.Traits.{is_hidden_of}
 use Rattle.shadow_node.specs.declared.NodeEdit.{NodeEdit}
-use Rattle.shadow_node.specs.Edit.{edited, edited_settled}
+use Rattle.shadow_node.specs.Edit.{edited_settled}
 use Rattle.shadow_node.specs.Forest.{PlainForest, PlainNode}
-use Rattle.shadow_node.specs.Fields.{NodeFields, SettledFields, contents_of, tags_of}
+use Rattle.shadow_node.specs.Fields.{SettledFields, contents_of, tags_of}
 use Rattle.shadow_node.specs.Find.{first_settled, first_with, way_to}
 use Rattle.shadow_node.specs.Frames.{settled_forest}
-use Rattle.shadow_node.specs.Limits.{IsForestWithin}
 use Rattle.shadow_node.specs.Seen.{Sight, sight_of}
 use Rattle.shadow_node.specs.Stamps.{StampMap, all_stamped}
 use Rattle.shadow_node.proofs.Found.{contents_of_node, first_with-contents}
@@ -24,7 +23,6 @@ use Rattle.clone_path.specs.Changed.{forest_edited_at}
 use Rattle.clone_path.proofs.Tags.{all_tags}
 use Rattle.tree_settle.specs.Along.{changed_tags}
 use Rattle.tree_settle.proofs.Settled.{contents_of-settled, settled_below-in}
-use Rattle.tree_revision.specs.Revisions.{edited_at}
 use Rattle.tree_revision.specs.ForestStamps.{HasTagsOf, IsStampAfter, AreStampsAfter}
 use Rattle.tree_revision.specs.Unchanged.{IsChangeAt}
 use Rattle.tree_revision.proofs.Built.{contents_of-forest_edited_at}
@@ -44,7 +42,7 @@ if_ok_is P (Ok given) value is holds = subst P (sym is) holds
 if_ok_is P (Err error) value is holds = tt
 
 -- a change of a node keeps the tags
-pub all_tags-edited : (tag : ℕ) (change : NodeEdit) (forest : PlainForest SettledFields) → all_tags (forest_edited_at tag change forest) ≡ all_tags forest
+all_tags-edited : (tag : ℕ) (change : NodeEdit) (forest : PlainForest SettledFields) → all_tags (forest_edited_at tag change forest) ≡ all_tags forest
 all_tags-edited tag change forest = ap tags_of (contents_of-forest_edited_at tag change forest) ∙ tags_edited tag change (contents_of forest)
 
 module _ (size : Size) (newest : ℕ → StateCell) (tag : ℕ) (change : NodeEdit) (way : List ℕ) (old : PlainForest SettledFields) (differ : IsDistinct nat_eq (all_tags old)) (leads : way_to tag old ≡ Some way) where

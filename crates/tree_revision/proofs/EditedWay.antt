@@ -19,7 +19,7 @@ use Rattle.clone_path.proofs.Ways.{way_found, way_past}
 use Rattle.tree_settle.specs.Along.{IsSettledBut, leads_to, way_below}
 use Rattle.tree_settle.specs.Limits.{AreFramesInBounds}
 use Rattle.tree_settle.specs.Walk.{fields_in, settled_in}
-use Rattle.tree_revision.specs.Unchanged.{SeenNode, shown_here, seen_below}
+use Rattle.tree_revision.specs.Unchanged.{shown_here, seen_below}
 use Rattle.tree_revision.proofs.Seen.{second_of, seen_later}
 use Rattle.tree_revision.proofs.Upward.{some_or}
 use Rattle.tree_revision.proofs.Unsettled.{IsSettled}

@@ -1,13 +1,13 @@
 -- Settling changes nothing exactly where a forest is settled already.
-use Rattle.std.proofs.Common.{◌≡◌, ℕ, zero, suc, ◌+◌, ◌++◌, ◌∙◌, [], true, false, Bool, refl, ap, sym, arith}
+use Rattle.std.proofs.Common.{◌≡◌, ℕ, zero, suc, ◌+◌, [], true, false, Bool, refl, ap, arith}
 use Rattle.shadow_frame.specs.declared.Size.{Size}
 use Rattle.native_state.specs.declared.StateCell.{StateCell}
 use Rattle.shadow_node.specs.Forest.{PlainForest, none, node, PlainNode}
 use Rattle.shadow_node.specs.Fields.{SettledFields, contents_of}
 use Rattle.shadow_node.specs.Frames.{frame_in}
 use Rattle.tree_settle.specs.Along.{IsSettledBut, changed_tags, changed_tags_of}
-use Rattle.tree_settle.specs.Changes.{changes_in, changes_with, is_settled}
-use Rattle.tree_settle.specs.Walk.{changes_of, fields_in, settled_in, settled_tree}
+use Rattle.tree_settle.specs.Changes.{changes_in, changes_with}
+use Rattle.tree_settle.specs.Walk.{changes_of, settled_in, settled_tree}
 use Rattle.tree_settle.proofs.Stays.{decides_settled}
 
 -- equal forests have equal first nodes

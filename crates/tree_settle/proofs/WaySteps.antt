@@ -1,5 +1,5 @@
 -- One step of the walk along a way.
-use Rattle.std.proofs.Common.{◌≡◌, ℕ, zero, suc, ◌+◌, ◌++◌, ◌∷◌, ◌∙◌, ◌≤◌, List, [], Bool, true, false, if◌then◌else◌, length, drop, refl, ap, sym, subst, append_assoc, arith}
+use Rattle.std.proofs.Common.{◌≡◌, ℕ, ◌+◌, ◌++◌, ◌∷◌, ◌∙◌, ◌≤◌, List, [], Bool, true, false, if◌then◌else◌, length, drop, refl, ap, sym, subst, append_assoc, arith}
 use Rattle.std.specs.Prelude.{nat_lt, max}
 use Rattle.std.proofs.lemmas.Int.{ints}
 use Rattle.std.proofs.lemmas.List.{append-nil}
@@ -9,15 +9,14 @@ use Rattle.native_state.specs.declared.StateCell.{StateCell}
 use Rattle.shadow_kinds.specs.Traits.{has_state_of}
 use Rattle.counts.specs.Raised.{raised}
 use Rattle.native_state.specs.Made.{MadeCounts, nodes_more}
-use Rattle.shadow_node.specs.Forest.{PlainForest, none, node, PlainNode, depth_of}
+use Rattle.shadow_node.specs.Forest.{PlainForest, node, PlainNode, depth_of}
 use Rattle.shadow_node.specs.Fields.{SettledFields, contents_of}
 use Rattle.shadow_node.specs.Falls.{Shared, forest_at}
 use Rattle.shadow_node.specs.Frames.{frame_in, state_when}
 use Rattle.shadow_node.proofs.Trees.{forest_at-drop_end}
 use Rattle.tree_settle.specs.Along.{IsSettledBut, IsTreeSettledBut, changed_tags, changed_tags_of, leads_to, tag_when, way_at, way_below}
 use Rattle.tree_settle.specs.Changes.{changes_in}
-use Rattle.tree_settle.specs.Limits.{AreFramesInBounds}
-use Rattle.tree_settle.specs.Walk.{HasRoomInside, IsTreeInBounds, changes_of, settled_in, settled_tree}
+use Rattle.tree_settle.specs.Walk.{HasRoomInside, changes_of, settled_in, settled_tree}
 use Rattle.tree_settle.proofs.Steps.{some_more}
 use Rattle.tree_settle.proofs.Unchanged.{but_none-settled, no_tags-none_changes, no_tags-none_of, none_below, settled-but_none}
 

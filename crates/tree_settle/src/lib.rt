@@ -49,7 +49,7 @@ pub fn settle(
     forest_or_shared(new, forest)
 }
 
-/// A parent's size, before a change and after it.
+/// A parent's size, before a change and after it, in whole points.
 #[derive(Clone, Copy)]
 pub struct SizeChange {
     pub before: Size,
@@ -59,9 +59,10 @@ pub struct SizeChange {
 /// The forest of a surface, where it was settled for the size before, but for the nodes on a way:
 /// the tags from a top node down.
 ///
-/// All is as `settle` has it, at less cost: nodes on the way are entered, and else only what lies in
-/// a parent whose size changes. The tags of the nodes that change are added to a list, each after
-/// those below it.
+/// The size after is from 0 to 1,000,000 points each way, and the forest is at most 48 deep, with
+/// its frames in bounds. All is as `settle` has it, at less cost: nodes on the way are entered, and
+/// else only what lies in a parent whose size changes. The tags of the nodes that change are added
+/// to a list, each after those below it; where memory is missing, some of them may be there.
 pub fn settle_along(
     alloc: Global,
     made: &mut Made,

@@ -1,11 +1,11 @@
-use Rattle.std.proofs.Common.{◌≡◌, ◌+◌, ◌++◌, ◌∙◌, List, Some, None, cond, is_some, sym, ap, refl, subst, arith}
+use Rattle.std.proofs.Common.{◌≡◌, ◌+◌, ◌++◌, ◌∙◌, Some, None, cond, is_some, sym, ap, subst, arith}
 use Rattle.native_state.specs.Families.{cell_in}
 use Rattle.shadow_node.specs.Fields.{SettledFields, contents_of}
 use Rattle.shadow_node.specs.Find.{first_settled, way_to}
 use Rattle.shadow_node.specs.Frames.{settled_forest}
 use Rattle.shadow_node.proofs.Maps.{depth_of-forest_map}
 use Rattle.clone_path.specs.Changed.{forest_edited_at}
-use Rattle.tree_settle.specs.Along.{IsSettledBut, changed_tags}
+use Rattle.tree_settle.specs.Along.{changed_tags}
 use Rattle.tree_settle.specs.Limits.{AreFramesInBounds}
 use Rattle.tree_revision.specs.Steps.{AreCountsWithin}
 use Rattle.tree_revision.specs.ForestStamps.{AreStampsAfter}

@@ -5,10 +5,9 @@ use Rattle.shadow_node.specs.Forest.{PlainForest, depth_of, node_count}
 use Rattle.shadow_node.specs.Fields.{SettledFields, contents_of}
 use Rattle.shadow_node.specs.Falls.{trees_of, forest_at}
 use Rattle.shadow_node.proofs.Trees.{forest_at-drop}
-use Rattle.tree_settle.specs.Along.{IsSettledBut}
 use Rattle.tree_settle.specs.Changes.{changes_in}
 use Rattle.tree_settle.specs.Limits.{AreFramesInBounds}
-use Rattle.tree_settle.specs.Walk.{IsTreeInBounds, begun_or, changes_of, settled_in, settled_tree}
+use Rattle.tree_settle.specs.Walk.{IsTreeInBounds, begun_or, changes_of, settled_in}
 use Rattle.tree_settle.proofs.Settled.{FitsLeaf-settled}
 use Rattle.tree_settle.proofs.Stays.{tree_stays, none_changes, one_more_changes}
 use Rattle.tree_settle.proofs.Lists.{taken_more, take_all, not_begun, is_begun}
