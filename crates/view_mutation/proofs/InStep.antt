@@ -28,7 +28,7 @@ children_by_stand : (tree : PlainHostTree) (parent : ℕ) → children_at tree p
 children_by_stand [] parent = refl
 children_by_stand (placed ∷ others) parent =
     elim (nat_eq placed.parent parent) as (λ b. host_tags (cond b (placed ∷ filter (λ placed. nat_eq placed.parent parent) others) (filter (λ placed. nat_eq placed.parent parent) others))
-        ≡ map (λ stand. stand.1) (cond b ((placed.parent, placed.tag) ∷ filter (λ stand. nat_eq stand.0 parent) (stands_of others)) (filter (λ stand. nat_eq stand.0 parent) (stands_of others)))) [
+    ≡ map (λ stand. stand.1) (cond b ((placed.parent, placed.tag) ∷ filter (λ stand. nat_eq stand.0 parent) (stands_of others)) (filter (λ stand. nat_eq stand.0 parent) (stands_of others)))) [
       | true ↦ ap (λ tags. placed.tag ∷ tags) (children_by_stand others parent)
       | false ↦ children_by_stand others parent
     ]
