@@ -109,60 +109,89 @@ fn threes(alloc: Global, made: &mut Made, count: u32) -> Result<FamilyTable, All
     Ok(table)
 }
 
+/// Whether each of the tags has that family, or none.
+fn have(table: &FamilyTable, tags: &[u32], wanted: Option<Family>) -> bool {
+    for tag in tags {
+        if table.get(*tag) != wanted {
+            return false;
+        }
+    }
+    true
+}
+
+/// How many families and how many pages a table has.
+fn counts_of(table: &FamilyTable) -> (usize, usize) {
+    (table.len(), table.pages())
+}
+
+/// Whether tag 100 was added to a full page, which is parted.
+fn is_parted(full: &FamilyTable, parted: &FamilyTable) -> bool {
+    counts_of(full) == (64, 1)
+        && counts_of(parted) == (65, 2)
+        && have(full, &[100], None)
+        && have(parted, &[100], Some(family(2)))
+        && have(parted, &[1, 2, 4, 95, 97, 98, 193, u32::MAX], None)
+        && have(parted, &[3, 6, 96, 99, 102, 192], Some(family(1)))
+}
+
 #[test]
 fn a_full_page_is_parted(rt: HostRuntime) -> Result<(), Fail> {
     let mut made = Made::start(&rt);
     let full = threes(rt.alloc(), &mut made, 64)?;
-    assert_eq!(rt; full.len(), 64);
-    assert_eq!(rt; made.families(), 2080);
     let parted = full.with(rt.alloc(), &mut made, 100, family(2))?;
-    assert_eq!(rt; parted.len(), 65);
-    assert_eq!(rt; full.len(), 64);
-    assert_eq!(rt; made.families(), 2145);
-    assert_eq!(rt; full.pages(), 1);
-    assert_eq!(rt; parted.pages(), 2);
-    assert!(rt; parted.get(100) == Some(family(2)));
-    assert!(rt; full.get(100).is_none());
-    for tag in [1, 2, 4, 95, 97, 98, 193, u32::MAX] {
-        assert!(rt; parted.get(tag).is_none(), "{tag}");
-    }
-    for tag in [3, 6, 96, 99, 102, 192] {
-        assert!(rt; parted.get(tag) == Some(family(1)), "{tag}");
-    }
-    let lower = parted.with(rt.alloc(), &mut made, 96, family(3))?;
-    assert_eq!(rt; made.families(), 2177);
-    let upper = lower.with(rt.alloc(), &mut made, 99, family(4))?;
-    assert_eq!(rt; made.families(), 2210);
-    assert_eq!(rt; upper.len(), 65);
-    assert!(rt; upper.get(96) == Some(family(3)));
-    assert!(rt; upper.get(99) == Some(family(4)));
+    assert!(rt; is_parted(&full, &parted));
+    assert_eq!(rt; made.families(), 2145, "2,080 for the first 64, and 65");
     Ok(())
+}
+
+#[test]
+fn each_half_of_a_parted_page_is_copied_alone(rt: HostRuntime) -> Result<(), Fail> {
+    let mut made = Made::start(&rt);
+    let parted = threes(rt.alloc(), &mut made, 65)?;
+    let before = made.families();
+    let lower = parted.with(rt.alloc(), &mut made, 96, family(3))?;
+    let upper = lower.with(rt.alloc(), &mut made, 99, family(4))?;
+    assert!(rt; have(&upper, &[96], Some(family(3))) && have(&upper, &[99], Some(family(4))));
+    assert_eq!(rt; made.families() - before, 32 + 33);
+    Ok(())
+}
+
+/// Whether the family of tag 6144 was changed, and no other.
+fn is_changed(table: &FamilyTable, after: &FamilyTable, changed: Family) -> bool {
+    counts_of(table) == counts_of(after)
+        && table.len() == 4096
+        && table.pages() <= 128
+        && have(after, &[6144], Some(changed))
+        && have(table, &[6144], Some(family(1)))
+        && have(after, &[6143], None)
+        && after.cell(6144) == changed.cell
+        && table.cell(6144) == StateCell::start()
+        && after.cell(6143) == StateCell::start()
 }
 
 #[test]
 fn one_change_among_the_most_families_copies_one_page(rt: HostRuntime) -> Result<(), Fail> {
     let mut made = Made::start(&rt);
     let table = threes(rt.alloc(), &mut made, 4096)?;
-    assert_eq!(rt; table.len(), 4096);
     let before = made.families();
     let changed = Family {
         kind: 1,
         cell: at(1, 5, 6),
     };
     let after = table.with(rt.alloc(), &mut made, 6144, changed)?;
-    assert!(rt; made.families() > before);
-    assert!(rt; made.families() - before <= 65);
-    assert_eq!(rt; made.count(), 0);
-    assert!(rt; table.pages() <= 128);
-    assert_eq!(rt; after.pages(), table.pages());
-    assert!(rt; after.get(6144) == Some(changed));
-    assert!(rt; after.cell(6144) == changed.cell);
-    assert!(rt; table.cell(6144) == StateCell::start());
-    assert!(rt; after.cell(6143) == StateCell::start());
-    assert!(rt; table.get(6144) == Some(family(1)));
-    assert!(rt; after.get(6143).is_none());
-    assert_eq!(rt; after.len(), 4096);
+    assert!(rt; is_changed(&table, &after, changed));
+    assert!(rt; (1..=65).contains(&(made.families() - before)) && made.count() == 0);
     Ok(())
+}
+
+/// Whether the families of a list were added to a table of 100.
+fn are_added(table: &FamilyTable, added: &FamilyTable, list: &[(u32, Family)]) -> bool {
+    for (tag, family) in list {
+        if !have(added, &[*tag], Some(*family)) || !have(table, &[*tag], None) {
+            return false;
+        }
+    }
+    added.len() == 104 && have(added, &[3, 96, 99, 300], Some(family(1)))
 }
 
 #[test]
@@ -177,19 +206,16 @@ fn a_list_is_added(rt: HostRuntime) -> Result<(), Fail> {
         (97, family(8)),
     ];
     let added = table.with_new(rt.alloc(), &mut made, &list)?;
-    assert!(rt; made.families() - before <= 4 * 65);
-    assert_eq!(rt; added.len(), 104);
-    for (tag, family) in list {
-        assert!(rt; added.get(tag) == Some(family), "{tag}");
-        assert!(rt; table.get(tag).is_none(), "{tag}");
-    }
-    for tag in [3, 96, 99, 300] {
-        assert!(rt; added.get(tag) == Some(family(1)), "{tag}");
-    }
+    assert!(rt; are_added(&table, &added, &list) && made.families() - before <= 4 * 65);
     let shared = added.share()?;
-    assert_eq!(rt; shared.len(), 104);
+    assert!(rt; are_added(&table, &shared, &list));
+    Ok(())
+}
+
+#[test]
+fn an_empty_list_adds_nothing(rt: HostRuntime) -> Result<(), Fail> {
+    let mut made = Made::start(&rt);
     let none = FamilyTable::empty(rt.alloc())?.with_new(rt.alloc(), &mut made, &[])?;
-    assert_eq!(rt; none.len(), 0);
-    assert_eq!(rt; none.pages(), 0);
+    assert_eq!(rt; counts_of(&none), (0, 0));
     Ok(())
 }

@@ -136,8 +136,7 @@ fn settled(
     requires low { pos 0 ≤ℤ width }
     requires high { width ≤ℤ pos 1000000 }
     requires within { IsForestWithin (contents_of forest.now) }
-    ensures limits { IfOk result IsForestInLimits }
-    ensures depth { IfOk result (λ settled. depth_of settled ≤ 48) }
+    ensures { IfOk result (λ settled. IsForestWithin (contents_of settled)) }
 {
     settle(alloc, made, forest, surface(width), families)
 }
@@ -278,43 +277,71 @@ fn state_in(forest: &Forest, tag: u32) -> Option<StateCell> {
     find(forest, tag).and_then(|node| node.state())
 }
 
+/// Whether the four nodes have these widths, in the order of their tags.
+fn have_widths(forest: &Forest, widths: [i64; 4]) -> bool {
+    let mut tag = 1;
+    for width in widths {
+        if width_of(forest, tag) != Some(width) {
+            return false;
+        }
+        tag = tag.saturating_add(1);
+    }
+    true
+}
+
+/// The family of the input, which is tag 3, once its state changed.
+fn moved() -> Family {
+    Family {
+        kind: 4,
+        cell: StateCell {
+            count: 1,
+            point: Point { x: 5, y: 6 },
+        },
+    }
+}
+
+/// Whether the input has its new state, and the scroll the one that it began with.
+fn have_states(forest: &Forest) -> bool {
+    state_in(forest, 3) == Some(moved().cell) && state_in(forest, 4) == Some(StateCell::start())
+}
+
+#[test]
+fn each_node_gets_its_frame_once(rt: HostRuntime) -> Result<(), Fail> {
+    let mut made = Made::start(&rt);
+    let forest = four_nodes(rt.alloc(), &mut made)?;
+    let none = FamilyTable::empty(rt.alloc())?;
+    let first = settled(rt.alloc(), &mut made, &forest, 320, &none)?;
+    assert!(rt; made.count() == 8 && have_widths(&first, [320, 30, 30, 320]));
+    let again = settled(rt.alloc(), &mut made, &first, 320, &none)?;
+    assert!(rt; made.count() == 8 && have_widths(&again, [320, 30, 30, 320]));
+    Ok(())
+}
+
 #[test]
 fn what_changes_is_made_anew_and_all_else_is_shared(rt: HostRuntime) -> Result<(), Fail> {
     let mut made = Made::start(&rt);
-    let forest = four_nodes(rt.alloc(), &mut made)?;
-    assert_eq!(rt; made.count(), 4);
-    let none = FamilyTable::empty(rt.alloc())?;
-    let first = settled(rt.alloc(), &mut made, &forest, 320, &none)?;
-    assert_eq!(rt; made.count(), 8, "each node gets its frame");
-    for (tag, width) in [(1, 320), (2, 30), (3, 30), (4, 320)] {
-        assert_eq!(rt; width_of(&first, tag), Some(width), "{tag}");
-    }
-    let again = settled(rt.alloc(), &mut made, &first, 320, &none)?;
-    assert_eq!(rt; made.count(), 8, "nothing changes");
-    let moved = StateCell {
-        count: 1,
-        point: Point { x: 5, y: 6 },
-    };
-    let families = none.with(
-        rt.alloc(),
-        &mut made,
-        3,
-        Family {
-            kind: 4,
-            cell: moved,
-        },
-    )?;
-    let deep = settled(rt.alloc(), &mut made, &again, 320, &families)?;
-    assert_eq!(rt; made.count(), 11, "the way down to the input");
-    assert!(rt; state_in(&deep, 3) == Some(moved));
-    assert!(rt; state_in(&deep, 4) == Some(StateCell::start()));
-    let wider = settled(rt.alloc(), &mut made, &deep, 400, &families)?;
-    assert_eq!(rt; made.count(), 13, "what is as wide as the surface");
-    for (tag, width) in [(1, 400), (2, 30), (3, 30), (4, 400)] {
-        assert_eq!(rt; width_of(&wider, tag), Some(width), "{tag}");
-    }
-    assert!(rt; state_in(&wider, 3) == Some(moved));
+    let first = settled_four(rt.alloc(), &mut made)?;
+    let families = FamilyTable::empty(rt.alloc())?.with(rt.alloc(), &mut made, 3, moved())?;
+    let deep = settle(rt.alloc(), &mut made, &first, surface(320), &families)?;
+    assert!(rt;
+        made.count() == 11 && have_states(&deep),
+        "the way down to the input"
+    );
+    let wider = settle(rt.alloc(), &mut made, &first, surface(400), &families)?;
+    assert!(rt;
+        made.count() == 15 && have_states(&wider) && have_widths(&wider, [400, 30, 30, 400])
+    );
     Ok(())
+}
+
+/// A forest settled in a surface that is 320 points wide, without native state.
+fn settled_anew(alloc: Global, made: &mut Made, forest: &Forest) -> Result<Forest, AllocError>
+    requires within { IsForestWithin (contents_of forest.now) }
+    ensures limits { IfOk result IsForestInLimits }
+    ensures depth { IfOk result (λ settled. depth_of settled ≤ 48) }
+{
+    let none = FamilyTable::empty(alloc)?;
+    settle(alloc, made, forest, surface(320), &none)
 }
 
 /// The four nodes, settled in a surface that is 320 points wide.
@@ -323,8 +350,7 @@ fn settled_four(alloc: Global, made: &mut Made) -> Result<Forest, AllocError>
     ensures depth { IfOk result (λ settled. depth_of settled ≤ 48) }
 {
     let forest = four_nodes(alloc, made)?;
-    let none = FamilyTable::empty(alloc)?;
-    settled(alloc, made, &forest, 320, &none)
+    settled_anew(alloc, made, &forest)
 }
 
 /// A surface that was 320 points wide, and has that width.
@@ -343,15 +369,8 @@ fn resized(width: i64) -> SizeChange
 fn the_way_to_a_leaf_of_another_state(rt: HostRuntime) -> Result<(), Fail> {
     let mut made = Made::start(&rt);
     let was = settled_four(rt.alloc(), &mut made)?;
-    let moved = Family {
-        kind: 4,
-        cell: StateCell {
-            count: 1,
-            point: Point { x: 5, y: 6 },
-        },
-    };
     let none = FamilyTable::empty(rt.alloc())?;
-    let families = none.with(rt.alloc(), &mut made, 3, moved)?;
+    let families = none.with(rt.alloc(), &mut made, 3, moved())?;
     let size = resized(320);
     let tags = tags_along(rt.alloc(), &mut made, &was, size, &families, &[1, 2, 3])?;
     assert!(rt; are_these(&tags, &[3, 2, 1]));
