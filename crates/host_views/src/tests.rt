@@ -151,20 +151,3 @@ fn a_copy_stays_as_it_is(rt: HostRuntime) {
     assert!(rt; has_children(&copy, 2, &[3]));
     assert_eq!(rt; copy.len(), 4);
 }
-
-#[test]
-fn mutations_in_one_call_leave_a_copy(rt: HostRuntime) {
-    let alloc = rt.alloc();
-    let mut registry = Registry::start(alloc).expect(&rt, "memory");
-    let copy = registry.copy(alloc).expect(&rt, "memory");
-    let steps = [
-        create(alloc, 2).expect(&rt, "memory"),
-        create(alloc, 3).expect(&rt, "memory"),
-        insert(2, 3, 0),
-        insert(0, 2, 0),
-    ];
-    registry.apply_all(alloc, &steps).expect(&rt, "memory");
-    assert!(rt; has_children(&registry, 0, &[2]));
-    assert!(rt; has_children(&registry, 2, &[3]));
-    assert_eq!(rt; copy.len(), 0);
-}
