@@ -2,17 +2,17 @@ use Rattle.std.proofs.Common.{◌≡◌, ◌+◌, rules, refl, ap, ◌∙◌}
 use Rattle.tree_revision.specs.Records.{plain_op, plain_record}
 use Rattle.commit_core.specs.Commit.{fresh, commit_in}
 use Rattle.commit_core.proofs.Steps.{clear_look, cancelled_look, look_in_vain, same_held, same_tries}
-use Rattle.commit_core.proofs.committer.Committer.look.Goals.{in-Some-23, in-None-23, in-Some-24, in-None-24}
+use Rattle.commit_core.proofs.committer.Committer.look.Goals.{in-Some-32, in-None-32, in-Some-33, in-None-33}
 use Rattle.commit_core.proofs.committer.Committer.look.Goals as goal
 
 pub returns-in-Ok-prepare_shared-clause-event : goal.returns-in-Ok-prepare_shared-clause-event
 returns-in-Ok-prepare_shared-clause-event g c =
     let same_op : c.deref.result.now ≡ c.args.entry.op.value = search rules in
-    clear_look (g.P.Port.told c.args.port.now) (g.P.Port.told c.try_look.new.self) c.args.self.now c.match-front-3.self (plain_record c.args.entry)
+    clear_look (g.P.Port.told c.args.port.now) (g.P.Port.told c.try_look.new.self) c.args.self.now c.match-front-4.self (plain_record c.args.entry)
     c.deref.result.now c.in-Ok.front c.self.inside.held c.in-Ok-prepare_shared.next (c.self.inside.tries + 1) _
     c.requires.ready c.in-Ok.ensures.lasts c.in-Ok.ensures.answer (same_held c.self.view_is) (ap plain_op same_op)
     c.in-Ok-prepare_shared.ensures.next (ap (λ n. n + 1) (same_tries c.self.view_is)) c.number-at.ensures
-    (elim c.match-front-3.branch [ in-Some-23 w ↦ w.self-is | in-None-23 w ↦ w.self-is ])
+    (elim c.match-front-4.branch [ in-Some-32 w ↦ w.self-is | in-None-32 w ↦ w.self-is ])
 
 pub returns-in-Err-Cancel-clause-event : goal.returns-in-Err-Cancel-clause-event
 returns-in-Err-Cancel-clause-event g c =
@@ -27,7 +27,7 @@ returns-in-Err-Cancel-clause-event g c =
 
 pub returns-in-Err-Memory-clause-event : goal.returns-in-Err-Memory-clause-event
 returns-in-Err-Memory-clause-event g c =
-    look_in_vain (g.P.Port.told c.args.port.now) (g.P.Port.told c.try_look.new.self) c.args.self.now c.match-front-9.self (plain_record c.args.entry)
+    look_in_vain (g.P.Port.told c.args.port.now) (g.P.Port.told c.try_look.new.self) c.args.self.now c.match-front-12.self (plain_record c.args.entry)
     c.in-Ok.front c.requires.ready c.in-Ok.ensures.lasts c.in-Ok.ensures.answer
-    ((elim c.match-front-9.branch [ in-Some-24 w ↦ w.self-is | in-None-24 w ↦ w.self-is ])
+    ((elim c.match-front-12.branch [ in-Some-33 w ↦ w.self-is | in-None-33 w ↦ w.self-is ])
     ∙ ap (commit_in (fresh (plain_record c.args.entry))) c.self.view_is)

@@ -2,7 +2,7 @@ use Rattle.std.proofs.Common.{◌≡◌, rules, ap, ◌∙◌}
 use Rattle.tree_revision.specs.Records.{plain_record}
 use Rattle.commit_core.specs.Commit.{fresh, commit_in}
 use Rattle.commit_core.proofs.Steps.{admitted_offer, late_offer, same_tries}
-use Rattle.commit_core.proofs.committer.Committer.offer.Goals.{in-Some-16, in-None-16}
+use Rattle.commit_core.proofs.committer.Committer.offer.Goals.{in-Some-22, in-None-22}
 use Rattle.commit_core.proofs.committer.Committer.offer.Goals as goal
 
 pub returns-in-Ok-clause-event : goal.returns-in-Ok-clause-event
@@ -14,8 +14,8 @@ returns-in-Ok-clause-event g c =
 pub returns-in-Err-Behind-clause-event : goal.returns-in-Err-Behind-clause-event
 returns-in-Err-Behind-clause-event g c =
     let back : c.in-Err-Behind.entry ≡ c.args.commit.entry = search rules in
-    late_offer (g.P.Port.told c.args.port.now) (g.P.Port.told c.try_offer.new.self) c.args.self.now c.match-now-3.self (plain_record c.args.commit.entry)
+    late_offer (g.P.Port.told c.args.port.now) (g.P.Port.told c.try_offer.new.self) c.args.self.now c.match-now-4.self (plain_record c.args.commit.entry)
     c.args.commit.next c.in-Err-Behind.found c.requires.ready c.in-Err-Behind.ensures.lasts (search rules) (search rules) (search rules) (search rules)
-    ((elim c.match-now-3.branch [ in-Some-16 w ↦ w.self-is | in-None-16 w ↦ w.self-is ])
+    ((elim c.match-now-4.branch [ in-Some-22 w ↦ w.self-is | in-None-22 w ↦ w.self-is ])
     ∙ ap (commit_in (fresh (plain_record c.in-Err-Behind.entry))) c.self.view_is
     ∙ ap (λ entry. commit_in (fresh (plain_record entry)) c.args.self.now) back)
