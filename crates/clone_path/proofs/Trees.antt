@@ -1,11 +1,12 @@
 -- A list of shared nodes in which one is another.
-use Rattle.std.proofs.Common.{◌≡◌, ℕ, zero, suc, ◌+◌, ◌<◌, List, [], ◌∷◌, ◌++◌, length, get_or, take, drop, slice_set, refl, ap, sym, subst, ◌∙◌, arith}
+use Rattle.std.proofs.Common.{◌≡◌, ℕ, zero, suc, ◌+◌, ◌<◌, List, [], ◌∷◌, ◌++◌, length, get_or, take, drop, slice_set, false, refl, ap, sym, subst, ◌∙◌, arith}
 use Rattle.std.proofs.lemmas.List.{take_more}
-use Rattle.std.specs.Prelude.{nat_eq}
+use Rattle.std.specs.Prelude.{nat_eq, is_some}
 use Rattle.std.specs.List.{IsDistinct}
 use Rattle.shadow_node.specs.Forest.{PlainForest, node, PlainNode, forest_of}
 use Rattle.shadow_node.specs.Fields.{SettledFields}
 use Rattle.shadow_node.specs.Falls.{Shared, trees_of, forest_at}
+use Rattle.shadow_node.specs.Find.{first_settled}
 use Rattle.shadow_node.proofs.Trees.{trees_before, trees_before-push, trees_of-append, forest_at-drop}
 use Rattle.clone_path.proofs.Tags.{all_tags}
 use Rattle.clone_path.proofs.OneNode.{differ_below}
@@ -31,3 +32,9 @@ tree_passed nodes at d rest h e =
     ap (λ front. trees_before (trees_of front) rest) (take_more nodes at d h ∙ ap (λ d. take at nodes ++ d ∷ []) (sym e))
     ∙ ap (λ trees. trees_before trees rest) (trees_of-append (take at nodes) (d ∷ []))
     ∙ trees_before-push (trees_of (take at nodes)) d.value rest
+
+-- no tag is found where there is no node
+pub none_there : (tag : ℕ) (nodes : List Shared) (forest : PlainForest SettledFields) → forest_at nodes ≡ forest → length nodes ≡ 0
+    → is_some (first_settled tag forest) ≡ false
+none_there tag [] forest e h = ap (λ f. is_some (first_settled tag f)) (sym e)
+none_there tag (first ∷ nodes) forest e h = cc

@@ -108,7 +108,11 @@ pub fn replace_at(
             let new = edited_node(alloc, made, node, change)?;
             return Ok(Some(forest_with(alloc, nodes, at, new)?));
         }
-        if let Some(children) = replace_at(alloc, made, node.children(), tag, change)? {
+        let below = node.children();
+        if below.nodes().is_empty() {
+            continue;
+        }
+        if let Some(children) = replace_at(alloc, made, below, tag, change)? {
             node.is_sound();
             let new = node_above(alloc, made, node, children)?;
             return Ok(Some(forest_with(alloc, nodes, at, new)?));

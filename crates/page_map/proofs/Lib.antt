@@ -9,3 +9,4 @@ pub mod Parts
 pub mod Put
 pub mod Taken
 pub mod Sorted
+pub mod Standing

@@ -14,10 +14,12 @@ module _ {V : Type 0} where
   empty_of es none = ap (from_sorted {R = nat_cmp}) none ∙ empty_of_len (from_sorted []) (len_of [] tt)
 
   module _ (pages : List (SharedPage V)) (rises : IsRising (joined pages)) (tag : ℕ) (below : List (SharedPage V)) (here : List (ℕ × V)) (above : List (SharedPage V)) (parted : IsParted pages tag below here above) where
-    pub found_here : find nat_cmp tag here ≡ get (from_sorted {R = nat_cmp} (joined pages)) tag
-    found_here = sym (
-        get-from_sorted nat_cmp (joined pages) tag (rising_sorted (joined pages) rises)
-        ∙ ap (find nat_cmp tag) parted.whole
+    pub found_in_page : find nat_cmp tag here ≡ find nat_cmp tag (joined pages)
+    found_in_page = sym (
+        ap (find nat_cmp tag) parted.whole
         ∙ find_after tag (joined below) (here ++ joined above) parted.below
         ∙ find_before tag here (joined above) parted.above
         )
+
+    pub found_here : find nat_cmp tag here ≡ get (from_sorted {R = nat_cmp} (joined pages)) tag
+    found_here = found_in_page ∙ sym (get-from_sorted nat_cmp (joined pages) tag (rising_sorted (joined pages) rises))

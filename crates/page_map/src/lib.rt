@@ -3,6 +3,7 @@
 
 mod lent;
 mod map;
+mod near;
 mod owned;
 mod page;
 mod share;
@@ -11,6 +12,7 @@ mod tests;
 mod thin;
 
 pub use map::PageMap;
+pub use near::Near;
 pub use share::{Joint, Share};
 
 fn needs_send<T: Send + Sync>(_value: &T) {}

@@ -83,7 +83,7 @@ impl<V> PageMap<V> {
     }
 
     /// The pages, in the order of their tags.
-    fn list(&self) -> &[PageRef<V>]
+    pub(crate) fn list(&self) -> &[PageRef<V>]
         ensures { IsTableOf self.now result.now }
     {
         match &self.pages {

@@ -1,6 +1,6 @@
 //! Maps that share their pages.
 
-use crate::{Joint, PageMap};
+use crate::{Joint, Near, PageMap};
 use std::alloc::{AllocError, Global};
 use std::test::Fail;
 
@@ -40,6 +40,46 @@ fn a_share_changes_by_itself(rt: HostRuntime) -> Result<(), Fail> {
     assert_eq!(rt; third.get(8190).copied(), Some(4095));
     assert!(rt; map.pages() <= 128);
     assert!(rt; 1 <= count && count <= 65);
+    Ok(())
+}
+
+/// What a map of 200 halves has at a tag.
+fn half(tag: u32) -> Option<u64> {
+    if tag % 2 == 0 && tag < 400 {
+        Some(u64::from(tag / 2))
+    } else {
+        None
+    }
+}
+
+#[test]
+fn a_place_changes_no_answer(rt: HostRuntime) -> Result<(), Fail> {
+    let alloc = rt.alloc();
+    let map = halves(alloc, 200)?;
+    let mut near = Near::start();
+    for tag in 0..410u32 {
+        assert_eq!(rt; map.get_near(&mut near, tag).copied(), half(tag));
+    }
+    for at in 0..410u32 {
+        let tag = 409 - at;
+        assert_eq!(rt; map.get_near(&mut near, tag).copied(), half(tag));
+    }
+    // only the tags of entries, each where the last one ended
+    near = Near::start();
+    for at in 0..200u32 {
+        assert_eq!(rt;
+            map.get_near(&mut near, 2 * at).copied(),
+            Some(u64::from(at))
+        );
+    }
+    // one place for two maps
+    let other = PageMap::of(alloc, vec![in alloc; (2, 90), (7, 91)]?)?;
+    for tag in 0..410u32 {
+        assert_eq!(rt; map.get_near(&mut near, tag).copied(), half(tag));
+        let value = other.get_near(&mut near, tag).copied();
+        assert_eq!(rt; value == Some(90), tag == 2);
+        assert_eq!(rt; value == Some(91), tag == 7);
+    }
     Ok(())
 }
 

@@ -12,6 +12,7 @@ mod Followed
 mod Good
 pub mod Kept
 mod Legal
+mod HeldBack
 mod Lines
 pub mod Lists
 pub mod Looks

@@ -8,29 +8,31 @@ use Rattle.std.proofs.Math.Seq.{take-suc}
 use Rattle.byte_ports.specs.Sinks.{SinkView, Whole, Part}
 use Rattle.byte_ports.proofs.Joined.{whole_then, part_then, part_first, whole_each, part_each}
 use Rattle.run_report.specs.declared.pieces.Piece.{Piece}
+use Rattle.run_report.specs.Lines.{IsHeldBack}
 use Rattle.run_report.specs.Pieces.{piece_text, text_of}
 use Rattle.run_report.specs.declared.journal.ActorPart.{ActorPart}
 use Rattle.run_report.specs.Journal.{plain_actor_part}
 use Rattle.run_report.specs.Text.{numbered, name_at}
+use Rattle.run_report.proofs.HeldBack.{fault_each, held_each}
 
 -- the pieces' text is that of a list of items
 pub text_of_each : (pieces : List Piece) → text_of pieces ≡ flat_map piece_text pieces
 text_of_each [] = refl
 text_of_each (piece ∷ pieces) = ap (λ rest. piece_text piece ++ rest) (text_of_each pieces)
 
--- one more piece, whole
-pub whole_piece : (old between new : SinkView) (pieces : List Piece) (i : ℕ) (d : Piece) → i < length pieces
-    → Whole old between (text_of (take i pieces)) → Whole between new (piece_text (get_or pieces i d))
-    → Whole old new (text_of (take (i + 1) pieces))
-whole_piece old between new pieces i d below before after =
-    rw text_of_each (whole_each piece_text old between new pieces i d below (rw text_of_each at before) after)
+-- one more piece
+pub held_piece : (old between new : SinkView) (held middle left : List ℕ) (pieces : List Piece) (i : ℕ) (d : Piece) → i < length pieces
+    → IsHeldBack old held between middle (text_of (take i pieces)) → IsHeldBack between middle new left (piece_text (get_or pieces i d))
+    → IsHeldBack old held new left (text_of (take (i + 1) pieces))
+held_piece old between new held middle left pieces i d below before after =
+    rw text_of_each (held_each piece_text old between new held middle left pieces i d below (rw text_of_each at before) after)
 
--- a fault at a piece leaves a part of all
-pub part_piece : (old between new : SinkView) (pieces : List Piece) (i : ℕ) (d : Piece) → i < length pieces
-    → Whole old between (text_of (take i pieces)) → Part between new (piece_text (get_or pieces i d))
-    → Part old new (text_of pieces)
-part_piece old between new pieces i d below before after =
-    rw text_of_each (part_each piece_text old between new pieces i d below (rw text_of_each at before) after)
+-- a fault at a piece
+pub fault_piece : (old between new : SinkView) (held middle : List ℕ) (pieces : List Piece) (i : ℕ) (d : Piece) → i < length pieces
+    → IsHeldBack old held between middle (text_of (take i pieces)) → Part between new (middle ++ piece_text (get_or pieces i d))
+    → Part old new (held ++ text_of pieces)
+fault_piece old between new held middle pieces i d below before after =
+    rw text_of_each (fault_each piece_text old between new held middle pieces i d below (rw text_of_each at before) after)
 
 -- the texts of a list's items as plain data
 module _ {A B : Type 0} (text : B → List ℕ) (plain : A → B) where

@@ -1,13 +1,14 @@
 -- The rows of props, one after another.
 use Rattle.std.proofs.Common.{◌≡◌, ℕ, zero, suc, ◌+◌, ◌<◌, List, [], ◌∷◌, ◌++◌, length, take, arith, refl, ap, sym, ◌∙◌, append_assoc, add-one}
 use Rattle.std.proofs.lemmas.List.{append-nil}
-use Rattle.byte_ports.specs.Sinks.{SinkView, Whole, Part}
-use Rattle.byte_ports.proofs.Joined.{whole_then, part_then, part_first}
+use Rattle.byte_ports.specs.Sinks.{SinkView, Part}
 use Rattle.prop_table.specs.Props.{PropList, value_at}
 use Rattle.prop_table.specs.Table.{RowRule}
 use Rattle.prop_table.specs.Rules.{rule_at}
 use Rattle.prop_table.specs.PairText.{pair_text_of, pairs_text_of}
+use Rattle.run_report.specs.Lines.{IsHeldBack}
 use Rattle.run_report.specs.Text.{label_text, hex_text}
+use Rattle.run_report.proofs.HeldBack.{fault_first, fault_then, held_both}
 use Rattle.std.specs.Prelude.{codes}
 
 -- the text of a row, by its number
@@ -39,21 +40,23 @@ rows-split (rule ∷ rules) (value ∷ values) (suc i) below =
           ∙ sym (append_assoc (pair_text_of rule value) (pairs_text_of (take i rules) values) (row_text rules values i ++ more.0)),
     )
 
--- one more row, whole
-pub whole_row : (old between new : SinkView) (rules : List RowRule) (props : PropList) (i : ℕ) → i < length rules
-    → Whole old between (pairs_text_of (take i rules) props) → Whole between new (row_text rules props i)
-    → Whole old new (pairs_text_of (take (i + 1) rules) props)
-whole_row old between new rules props i below before after =
-    rw (add-one, rows-take rules props i below) (whole_then old between new (pairs_text_of (take i rules) props) (row_text rules props i) before after)
+-- one more row
+pub held_row : (old between new : SinkView) (held middle left : List ℕ) (rules : List RowRule) (props : PropList) (i : ℕ) → i < length rules
+    → IsHeldBack old held between middle (pairs_text_of (take i rules) props) → IsHeldBack between middle new left (row_text rules props i)
+    → IsHeldBack old held new left (pairs_text_of (take (i + 1) rules) props)
+held_row old between new held middle left rules props i below before after =
+    rw (add-one, rows-take rules props i below)
+    (held_both old between new held middle left (pairs_text_of (take i rules) props) (row_text rules props i) before after)
 
--- a fault at a row leaves a part of all
-pub part_row : (old between new : SinkView) (rules : List RowRule) (props : PropList) (i : ℕ) → i < length rules
-    → Whole old between (pairs_text_of (take i rules) props) → Part between new (row_text rules props i)
-    → Part old new (pairs_text_of rules props)
-part_row old between new rules props i below before after =
+-- a fault at a row
+pub fault_row : (old between new : SinkView) (held middle : List ℕ) (rules : List RowRule) (props : PropList) (i : ℕ) → i < length rules
+    → IsHeldBack old held between middle (pairs_text_of (take i rules) props) → Part between new (middle ++ row_text rules props i)
+    → Part old new (held ++ pairs_text_of rules props)
+fault_row old between new held middle rules props i below before after =
     let more = rows-split rules props i below in
     let one : List ℕ = row_text rules props i in
-    rw more.1 (part_then old between new (pairs_text_of (take i rules) props) (one ++ more.0) before (part_first between new one more.0 after))
+    rw more.1
+    (fault_then old between new held middle (pairs_text_of (take i rules) props) (one ++ more.0) before (fault_first between new middle one more.0 after))
 
 -- the text of a label that is not empty
 pub label_text_some : (bytes : List ℕ) → (bytes ≡ [] → ⊥) → label_text bytes ≡ codes " label=" ++ hex_text bytes

@@ -5,6 +5,7 @@ pub mod Wishes
 pub mod Legal
 pub mod Machine
 pub mod ActorLegal
+pub mod Lines
 pub mod Pieces
 pub mod Named
 pub mod Text

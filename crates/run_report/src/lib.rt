@@ -5,6 +5,7 @@ mod answers;
 mod history;
 mod journal;
 pub mod laws;
+mod line;
 pub mod mounting;
 mod mounts;
 mod pieces;

@@ -1,12 +1,14 @@
 //! Texts of a few pieces, written to a sink without memory.
 
 ghost use Rattle.byte_ports.specs.Sinks.{Writes};
+ghost use Rattle.run_report.specs.Lines.{Puts};
 ghost use Rattle.run_report.specs.Pieces.{piece_text, text_of};
 ghost use Rattle.run_report.specs.Text.{number_line};
 ghost use Rattle.run_report.specs.TextParts.{pair_line, triple_line};
 
+use crate::line::{Held, put, put_number};
+use arrayvec::ArrayVec;
 use byte_ports::{Failed, Sink, write_whole};
-use itoa::{Buffer, Integer};
 
 /// A part of a line.
 #[derive(Clone, Copy)]
@@ -18,34 +20,42 @@ pub enum Piece<'a> {
     Signed(i64),
 }
 
-/// Writes a number in decimals.
-fn write_number<K: Sink, I: Integer>(sink: &mut K, number: I) -> Result<(), Failed>
-    ensures { Writes (K.sink_view sink.old) (K.sink_view sink.new) (I.text number) result }
-{
-    let mut buffer = Buffer::new();
-    write_whole(sink, buffer.format(number).as_bytes())
-}
-
-/// Writes one piece.
-fn write_piece<K: Sink>(sink: &mut K, piece: Piece<'_>) -> Result<(), Failed>
-    ensures { Writes (K.sink_view sink.old) (K.sink_view sink.new) (piece_text piece.entry) result }
+/// Puts one piece into a line.
+fn put_piece<K: Sink>(sink: &mut K, held: &mut Held, piece: Piece<'_>) -> Result<(), Failed>
+    ensures { Puts (K.sink_view sink.old) held.old.items
+        (K.sink_view sink.new) held.new.items (piece_text piece.entry) result }
 {
     match piece {
-        Piece::Text(text) => write_whole(sink, text),
-        Piece::Number(number) => write_number(sink, number),
-        Piece::Signed(number) => write_number(sink, number),
+        Piece::Text(text) => put(sink, held, text),
+        Piece::Number(number) => put_number(sink, held, number),
+        Piece::Signed(number) => put_number(sink, held, number),
     }
 }
 
-/// Writes the pieces, one after another. After `Failed` a part of their text is written.
-#[tactic(auto, using(byte_ports::proofs::Joined::whole_none))]
+/// Puts the pieces into a line, one after another.
+pub(crate) fn put_pieces<K: Sink>(
+    sink: &mut K,
+    held: &mut Held,
+    pieces: &[Piece<'_>],
+) -> Result<(), Failed>
+    ensures { Puts (K.sink_view sink.old) held.old.items
+        (K.sink_view sink.new) held.new.items (text_of pieces.now) result }
+{
+    for piece in pieces {
+        put_piece(sink, held, *piece)?;
+    }
+    Ok(())
+}
+
+/// Writes the pieces, one after another: in one write where they have at most 256 bytes.
+///
+/// After `Failed` a part of their text is written.
 pub fn write_pieces<K: Sink>(sink: &mut K, pieces: &[Piece<'_>]) -> Result<(), Failed>
     ensures { Writes (K.sink_view sink.old) (K.sink_view sink.new) (text_of pieces.now) result }
 {
-    for piece in pieces {
-        write_piece(sink, *piece)?;
-    }
-    Ok(())
+    let mut held = ArrayVec::new();
+    put_pieces(sink, &mut held, pieces)?;
+    write_whole(sink, held.as_slice())
 }
 
 /// Writes a text and a number, to the end of a line.

@@ -322,7 +322,7 @@ fn a_changed_surface_has_its_report(rt: HostRuntime) -> Result<(), Fail> {
 #[test]
 fn a_failed_write_leaves_a_part(rt: HostRuntime) -> Result<(), Fail> {
     let journal = first_run(rt.alloc())?;
-    for (room, failing, held) in [(0, 99, 0), (40, 99, 40), (1000, 0, 0), (1000, 2, 16)] {
+    for (room, failing, held) in [(0, 99, 0), (40, 99, 40), (1000, 0, 0), (1000, 2, 19)] {
         let mut fails = Vec::new(rt.alloc());
         fails.push(failing)?;
         let mut sink = MemorySink::start(rt.alloc(), room, fails)?;

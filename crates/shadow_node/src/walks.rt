@@ -17,7 +17,11 @@ pub fn find(forest: &Forest, tag: u32) -> Option<&NodeRef>
         if node.tag() == tag {
             return Some(node);
         }
-        if let Some(found) = find(node.children(), tag) {
+        let children = node.children();
+        if children.nodes().is_empty() {
+            continue;
+        }
+        if let Some(found) = find(children, tag) {
             return Some(found);
         }
     }
@@ -29,8 +33,13 @@ fn walk_to(way: &mut Vec<u32>, forest: &Forest, tag: u32) -> Result<bool, AllocE
     ensures { IfOk result (λ found. Walked found way.old.items way.new.items (way_to tag forest.now)) }
 {
     for node in forest.nodes() {
+        let is_wanted = node.tag() == tag;
+        let children = node.children();
+        if !is_wanted && children.nodes().is_empty() {
+            continue;
+        }
         way.push(node.tag())?;
-        if node.tag() == tag || walk_to(way, node.children(), tag)? {
+        if is_wanted || walk_to(way, children, tag)? {
             return Ok(true);
         }
         way.pop();

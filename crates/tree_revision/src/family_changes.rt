@@ -15,6 +15,7 @@ ghost use Rattle.tree_revision.specs.Steps.{IsFor, AreGathered, growth_cause, fa
 use crate::next::PrepareRefusal;
 use crate::record::Cancel;
 use native_state::{Family, FamilyTable, StateCell, StateChange, apply};
+use page_map::Near;
 use shadow_kinds::code;
 use shadow_node::{Forest, Made, ShadowNode};
 use std::alloc::{AllocError, Global};
@@ -36,6 +37,7 @@ fn begin(added: &mut Vec<(u32, Family)>, tag: u32, kind: u8) -> Result<(), Alloc
 /// It is cancelled where the tag has a family of another kind.
 fn add_one(
     added: &mut Vec<(u32, Family)>,
+    near: &mut Near,
     node: &ShadowNode,
     families: &FamilyTable,
 ) -> Result<(), PrepareRefusal>
@@ -44,7 +46,7 @@ fn add_one(
 {
     let tag = node.tag();
     let kind = code(node.kind());
-    match families.get(tag) {
+    match families.get_near(near, tag) {
         Some(family) if family.kind != kind => {
             Err(PrepareRefusal::Cancel(Cancel::KindChanged { tag }))
         }
@@ -56,6 +58,7 @@ fn add_one(
 /// The same for each node of a forest, in preorder.
 fn add_all(
     added: &mut Vec<(u32, Family)>,
+    near: &mut Near,
     forest: &Forest,
     families: &FamilyTable,
 ) -> Result<(), PrepareRefusal>
@@ -63,8 +66,8 @@ fn add_all(
     ensures cancelled { IfErr result (IsFor (other_kind families.now (preorder (contents_of forest.now)))) }
 {
     for node in forest.nodes() {
-        add_one(added, node, families)?;
-        add_all(added, node.children(), families)?;
+        add_one(added, near, node, families)?;
+        add_all(added, near, node.children(), families)?;
     }
     Ok(())
 }
@@ -86,7 +89,8 @@ pub(crate) fn grown(
     ensures made { IfOk result (λ grown. FamiliesWithin made.old made.new (65 * (map.len grown - map.len families.now))) }
 {
     let mut new = Vec::new(alloc);
-    add_all(&mut new, forest, families)?;
+    let mut near = Near::start();
+    add_all(&mut new, &mut near, forest, families)?;
     if families.len().saturating_add(new.len()) > MOST_FAMILIES {
         return Err(PrepareRefusal::Cancel(Cancel::FamiliesFull));
     }

@@ -15,6 +15,7 @@ ghost use Rattle.shadow_node.specs.Find.{first_settled};
 ghost use Rattle.tree_revision.specs.ForestStamps.{HasTagsOf, AreStampsAfter, IsStampAfter};
 ghost use Rattle.tree_revision.specs.Unchanged.{seen_below, shown_here, AreSeenIn, DoTreesStandIn, top_tags, tags_upward, AreStampsIn, IsStampIn, is_same_fields, seen_place, seen_by};
 
+use page_map::Near;
 use shadow_kinds::{have_same_rows, is_hidden};
 use shadow_node::{Forest, NodeRef, ShadowNode, Stamps};
 use std::alloc::{AllocError, Global};
@@ -187,10 +188,10 @@ impl<'a> Stamping<'a> {
     }
 
     /// The stamp that a tag had, or the number of the commit where it had none.
-    fn stamp_before(&self, tag: u32) -> u64
+    fn stamp_before(&self, near: &mut Near, tag: u32) -> u64
         ensures { result ≡ unwrap_or (maps.get self.now.before tag) self.now.number }
     {
-        match self.before.get(tag) {
+        match self.before.get_near(near, tag) {
             Some(stamp) => stamp,
             None => self.number,
         }
@@ -204,7 +205,7 @@ impl<'a> Stamping<'a> {
 
     /// Whether a node is the old one of its tag, with all below it, and its stamp after the commit;
     /// it is known whether each tree below it is the old one of its tag.
-    fn stamped(&self, node: &ShadowNode, shown: bool, below: bool) -> (bool, u64)
+    fn stamped(&self, near: &mut Near, node: &ShadowNode, shown: bool, below: bool) -> (bool, u64)
         requires old { AreSeenIn self.now.old true self.now.old }
         requires before { HasTagsOf self.now.before self.now.old }
         requires below { Decides below (DoTreesStandIn self.now.old node.now.children) }
@@ -218,7 +219,7 @@ impl<'a> Stamping<'a> {
         };
         let same = is_equal(was.node, node, below);
         if same && was.shown == shown {
-            (true, self.stamp_before(tag))
+            (true, self.stamp_before(near, tag))
         } else {
             (same, self.number())
         }
@@ -229,6 +230,7 @@ impl<'a> Stamping<'a> {
     fn stamp_all(
         &self,
         pairs: &mut Vec<(u32, u64)>,
+        near: &mut Near,
         forest: &Forest,
         above: bool,
     ) -> Result<bool, AllocError>
@@ -242,8 +244,8 @@ impl<'a> Stamping<'a> {
         let mut all_same = true;
         for node in forest.nodes() {
             let shown = is_shown_here(above, node);
-            let below = self.stamp_all(pairs, node.children(), shown)?;
-            let (same, stamp) = self.stamped(node, shown, below);
+            let below = self.stamp_all(pairs, near, node.children(), shown)?;
+            let (same, stamp) = self.stamped(near, node, shown, below);
             pairs.push((node.tag(), stamp))?;
             all_same = all_same && same;
         }
@@ -269,6 +271,7 @@ pub(crate) fn stamps_after(
 {
     let stamping = Stamping::new(alloc, old, new, before, number)?;
     let mut pairs = Vec::new(alloc);
-    stamping.stamp_all(&mut pairs, new, true)?;
+    let mut near = Near::start();
+    stamping.stamp_all(&mut pairs, &mut near, new, true)?;
     Stamps::of(alloc, &pairs)
 }

@@ -14,7 +14,7 @@ ghost use Rattle.tree_settle.specs.Walk.{HasRoomInside, IsTreeInBounds, changes_
 
 use crate::SizeChange;
 use crate::node::{frame_in, remade, state_in, stays};
-use crate::walk::{forest_or_shared, push_settled};
+use crate::walk::{forest_or_shared, push_kept, push_settled};
 use native_state::{FamilyTable, StateCell};
 use shadow_node::{Forest, Made, NodeRef, ShadowNode};
 use std::alloc::{AllocError, Global};
@@ -35,6 +35,13 @@ pub(crate) fn way_under<'a>(way: &'a [u32], node: &ShadowNode) -> (bool, &'a [u3
         Some((first, below)) if *first == node.tag() => (true, below),
         _ => (false, &[]),
     }
+}
+
+/// Whether a node stays as it is: its parent keeps its size, and the way does not lead to it.
+fn is_passed(size: SizeChange, way: &[u32], node: &ShadowNode) -> bool
+    ensures { Decides result ((size.before ≡ size.after) × (leads_to way.now node.now.fields.fields.tag ≡ false)) }
+{
+    is_kept(size) && !way_under(way, node).0
 }
 
 /// The state of a node: its family's where it is on the way, and else the same, which it has.
@@ -69,11 +76,8 @@ fn settle_along_node(
     ensures made { OnOk result (made.new ≡ nodes_more made.old (changes_of size.after (cell_in families.now) node.now)) }
     ensures tags { OnOk result (changed.new.items ≡ changed.old.items ++ changed_tags_of size.after (cell_in families.now) node.now) }
 {
-    let (is_on_way, below) = way_under(way, node);
-    if !is_on_way && is_kept(size) {
-        return Ok(None);
-    }
     node.is_sound();
+    let (is_on_way, below) = way_under(way, node);
     let state = state_along(families, node, is_on_way);
     let frame = frame_in(node, size.after);
     let inside = SizeChange {
@@ -123,6 +127,10 @@ pub(crate) fn settle_along_in(
     let nodes = forest.nodes();
     let mut all = Vec::new(alloc);
     for (at, node) in nodes.iter().enumerate() {
+        if is_passed(size, way, node) {
+            push_kept(&mut all, node)?;
+            continue;
+        }
         let new = settle_along_node(alloc, made, changed, node, size, families, way)?;
         push_settled(&mut all, &nodes[..at], node, new)?;
     }

@@ -1,11 +1,11 @@
 //! The walk down a forest: nodes that change are made anew, and all others are shared.
 
-ghost use Rattle.std.specs.Prelude.{◌≡◌, ◌+◌, ◌++◌, ◌∷◌, [], length, is_some, ◌||◌, unwrap_or, nat_lt, IfOk, OnOk};
+ghost use Rattle.std.specs.Prelude.{◌≡◌, ◌+◌, ◌++◌, ◌∷◌, [], List, length, is_some, ◌||◌, unwrap_or, nat_lt, IfOk, OnOk};
 ghost use Rattle.native_state.specs.Families.{cell_in};
 ghost use Rattle.native_state.specs.Made.{nodes_more};
 ghost use Rattle.shadow_node.specs.Forest.{depth_of};
 ghost use Rattle.shadow_node.specs.Fields.{contents_of};
-ghost use Rattle.shadow_node.specs.Falls.{trees_of};
+ghost use Rattle.shadow_node.specs.Falls.{Shared, trees_of};
 ghost use Rattle.tree_settle.specs.Changes.{changes_in};
 ghost use Rattle.tree_settle.specs.Limits.{AreFramesInBounds};
 ghost use Rattle.tree_settle.specs.Walk.{HasRoomInside, IsTreeInBounds, begun_or, changes_of, settled_in, settled_tree, tree_or};
@@ -37,16 +37,6 @@ fn begin(all: &mut Vec<NodeRef>, before: &[NodeRef]) -> Result<(), AllocError>
     Ok(())
 }
 
-/// The new node where there is one, and else the one that was, shared.
-fn node_or_shared(new: Option<NodeRef>, node: &NodeRef) -> Result<NodeRef, AllocError>
-    ensures { IfOk result (λ one. one.value ≡ tree_or new node.now.value) }
-{
-    match new {
-        Some(new) => Ok(new),
-        None => Ok(Arc::try_clone(node)?),
-    }
-}
-
 /// The new forest where there is one, and else the one that was, shared.
 pub(crate) fn forest_or_shared(new: Option<Forest>, forest: &Forest) -> Result<Forest, AllocError>
     ensures { IfOk result (λ one. one ≡ unwrap_or new forest.now) }
@@ -55,6 +45,18 @@ pub(crate) fn forest_or_shared(new: Option<Forest>, forest: &Forest) -> Result<F
         Some(new) => Ok(new),
         None => forest.share(),
     }
+}
+
+/// Adds a node that does not change to the list of new nodes, where it is begun.
+pub(crate) fn push_kept(all: &mut Vec<NodeRef>, node: &NodeRef) -> Result<(), AllocError>
+    ensures nodes { OnOk result ((before : List Shared) → trees_of (begun_or all.new.items (before ++ node.now ∷ [])) ≡ trees_of (begun_or all.old.items before) ++ node.now.value ∷ []) }
+    ensures begun { OnOk result (nat_lt 0 (length all.new.items) ≡ nat_lt 0 (length all.old.items)) }
+{
+    if all.is_empty() {
+        return Ok(());
+    }
+    all.push(Arc::try_clone(node)?)?;
+    Ok(())
 }
 
 /// Adds what a node became to the list of new nodes, which begins at the first change.
@@ -67,12 +69,14 @@ pub(crate) fn push_settled(
     ensures nodes { OnOk result (trees_of (begun_or all.new.items (before.now ++ node.now ∷ [])) ≡ trees_of (begun_or all.old.items before.now) ++ tree_or new node.now.value ∷ []) }
     ensures begun { OnOk result (nat_lt 0 (length all.new.items) ≡ (nat_lt 0 (length all.old.items) || is_some new)) }
 {
-    if all.is_empty() && new.is_none() {
-        return Ok(());
+    match new {
+        Some(new) => {
+            begin(all, before)?;
+            all.push(new)?;
+            Ok(())
+        }
+        None => push_kept(all, node),
     }
-    begin(all, before)?;
-    all.push(node_or_shared(new, node)?)?;
-    Ok(())
 }
 
 /// A node settled in a parent of that size, or `None` where neither it nor one below it changes.

@@ -23,6 +23,9 @@ pub mod Outside
 pub mod Within
 pub mod Found
 pub mod Whole
+pub mod Apart
+pub mod LevelOrder
+pub mod Level
 pub mod FiveViews
 pub mod TagSearch
 pub mod Holding

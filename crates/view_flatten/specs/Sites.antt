@@ -9,6 +9,7 @@ use Rattle.shadow_node.specs.Fields.{SettledFields, contents_of, tags_of}
 use Rattle.shadow_node.specs.Pruned.{pruned, skipped_tags}
 use Rattle.shadow_node.specs.Shown.{Descendant}
 use Rattle.host_views.specs.declared.HostView.{HostView}
+use Rattle.host_views.specs.Plain.{PlainPlacedView}
 use Rattle.view_flatten.specs.declared.sites.Found.{Found}
 use Rattle.view_flatten.specs.declared.sites.Host.{Host}
 use Rattle.view_flatten.specs.declared.sites.Site.{Site}
@@ -82,6 +83,14 @@ abbrev pub sites_from : Host → PlainForest SettledFields → List PlainSite
 sites_from host none = []
 sites_from host (node settled children siblings) =
     unless_hidden (is_hidden_of settled.fields.props) (own_site host settled ++ sites_from (host_inside host settled) children) ++ sites_from host siblings
+
+-- each of the sites has z 0
+abbrev pub AreLevel : List PlainSite → Type 0
+AreLevel sites = AllByRecursion (λ site. site.z ≡ pos 0) sites
+
+-- a placed view without its index, as a site of z 0
+abbrev pub level_site : PlainPlacedView → PlainSite
+level_site placed = record { tag = placed.tag; parent = placed.parent; z = pos 0; view = placed.view }
 
 -- these sites were added at the end
 abbrev pub IsAdded : List Site → List PlainSite → List Site → Type 0

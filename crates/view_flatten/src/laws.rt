@@ -9,6 +9,7 @@ ghost use Rattle.host_views.specs.Plain.{children_at};
 ghost use Rattle.view_flatten.specs.HostTree.{by_z, host_parent, host_tree_of, viewed};
 ghost use Rattle.shadow_node.specs.Shown.{Descendant};
 ghost use Rattle.view_flatten.specs.Places.{HasItsPlace, IsOfOne, count_below_z, count_up_to_z, placed_at};
+ghost use Rattle.view_flatten.specs.Sites.{AreLevel, level_site, root, sites_from};
 
 /// For every forest whose tags differ and are at least 1, its host tree is one: the tags of its views differ,
 /// and the parent of each is the root or another view of the tree.
@@ -41,4 +42,12 @@ pub fn children_go_by_z()
 pub fn indexes_go_by_z()
     ensures { (forest : PlainForest SettledFields) (before after : List Descendant) (here : Descendant) → viewed forest ≡ before ++ here ∷ after
         → Contains (host_tree_of forest) (placed_at (count_up_to_z here before + count_below_z here after) here) }
+{}
+
+/// For every forest whose tags differ and are at least 1 and whose views all have z 0, its host tree is its views
+/// in preorder.
+pub fn level_trees_go_in_preorder()
+    ensures { (forest : PlainForest SettledFields) → IsDistinct nat_eq (tags_of (contents_of forest))
+        → AllByRecursion (λ tag. 1 ≤ tag) (tags_of (contents_of forest)) → AreLevel (sites_from root forest)
+        → map level_site (host_tree_of forest) ≡ sites_from root forest }
 {}

@@ -5,9 +5,10 @@ ghost use Rattle.std.specs.List.Sorted.{IsNonDecreasingBy, IsPermutation};
 ghost use Rattle.shadow_node.specs.Fields.{SettledFields};
 ghost use Rattle.view_flatten.specs.Placed.{AreMarked, plain_place, plain_places};
 ghost use Rattle.view_flatten.specs.Placing.{AreByZ, HoldOnlyWhereMarked, placed_site, sites_at, tree_below};
-ghost use Rattle.view_flatten.specs.Sites.{PlainSite, AreSitesMarked, plain_site, plain_sites};
+ghost use Rattle.view_flatten.specs.Sites.{PlainSite, AreSitesMarked, HasRoomFor, plain_site, plain_sites, site_in};
+ghost use Rattle.tree_settle.specs.Limits.{IsFrameInBounds};
 
-use crate::sites::Site;
+use crate::sites::{Host, Site, begin_of};
 use crate::walks::Spot;
 use host_views::{HostView, ViewRef};
 use shadow_frame::{Point, Rect};
@@ -37,6 +38,23 @@ pub struct Places<'a> {
 }
 
 impl<'a> Placed<'a> {
+    /// The place of a node in its host, with index 0.
+    pub fn first_in(host: Host, spot: Spot<'a>, is_skipped: bool) -> Placed<'a>
+        requires place { HasRoomFor 1 host.begin }
+        requires frame { IsFrameInBounds spot.tree.fields.frame }
+        ensures place { plain_place result ≡ placed_site host.parent 0 (site_in host spot.entry.tree.fields) }
+        ensures spot { result.spot ≡ spot.entry }
+        ensures mark { result.is_skipped ≡ is_skipped }
+    {
+        Placed {
+            parent: host.parent,
+            index: 0,
+            origin: begin_of(host.begin, spot.frame()),
+            spot,
+            is_skipped,
+        }
+    }
+
     /// The tag of the view, which is that of its node.
     pub fn tag(&self) -> u32
         ensures tag { result ≡ (plain_place self.now).tag }

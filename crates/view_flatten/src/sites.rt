@@ -44,20 +44,27 @@ pub(crate) struct Found<'a> {
 
 /// The host parent of the nodes of a forest, and where the parent of these nodes begins in it.
 #[derive(Clone, Copy)]
-pub(crate) struct Host {
-    parent: u32,
-    begin: Point,
+pub struct Host {
+    pub(crate) parent: u32,
+    pub(crate) begin: Point,
 }
 
 impl Host {
     /// The host of a surface's top nodes.
-    pub(crate) fn root() -> Host
+    pub fn root() -> Host
         ensures { result ≡ root }
     {
         Host {
             parent: 0,
             begin: Point { x: 0, y: 0 },
         }
+    }
+
+    /// Where nodes begin in it whose frames begin at 0.
+    pub fn begin(&self) -> Point
+        ensures { result ≡ self.now.begin }
+    {
+        self.begin
     }
 
     /// The host of what lies below a node.
@@ -93,7 +100,7 @@ fn coordinate_after(coordinate: i64, by: i64) -> i64
 }
 
 /// Where a node begins whose parent begins at that place.
-fn begin_of(place: Point, frame: Rect) -> Point
+pub(crate) fn begin_of(place: Point, frame: Rect) -> Point
     requires place { HasRoomFor 1 place }
     requires frame { IsFrameInBounds frame }
     ensures { result ≡ moved place frame.origin }
@@ -105,14 +112,14 @@ fn begin_of(place: Point, frame: Rect) -> Point
 }
 
 /// The host of a node, where the node and its ancestors are shown.
-fn shown_host(host: Option<Host>, spot: &Spot) -> Option<Host>
+pub fn shown_host(host: Option<Host>, spot: &Spot) -> Option<Host>
     ensures { result ≡ shown_host host spot.now.tree.fields }
 {
     if is_hidden(spot.props()) { None } else { host }
 }
 
 /// The host of what lies below a node, where it is shown.
-fn host_below(host: Option<Host>, spot: &Spot, is_host: bool) -> Option<Host>
+pub fn host_below(host: Option<Host>, spot: &Spot, is_host: bool) -> Option<Host>
     requires place { HasRoomBelow 1 host }
     requires frame { IsFrameInBounds spot.now.tree.fields.frame }
     requires context { is_host ≡ is_context spot.now.tree.fields }
@@ -184,7 +191,7 @@ fn add_tree<'a>(
 {
     let host = shown_host(host, spot);
     let is_host = forms_context(spot.kind(), spot.props());
-    if skip.skips(spot, is_host) {
+    if skip.skips(walk, spot, is_host) {
         found.skipped.push(spot.tag())?;
         return add_site(&mut found.sites, spot, host, is_host, true);
     }

@@ -4,7 +4,7 @@ ghost use Rattle.std.specs.Prelude.{◌≡◌};
 ghost use Rattle.view_flatten.specs.Sites.{is_context};
 ghost use Rattle.view_flatten.specs.Skips.{DoTagsRise, skips};
 
-use crate::walks::Spot;
+use crate::walks::{Spot, Walk};
 
 /// Which nodes a walk does not enter.
 #[derive(Clone, Copy)]
@@ -18,15 +18,16 @@ pub enum Skip<'a> {
 }
 
 impl<'a> Skip<'a> {
-    /// Whether a node is not entered. It takes time in log n for n tags.
-    pub(crate) fn skips(&self, spot: &Spot, is_host: bool) -> bool
+    /// Whether a walk does not enter a node. It takes time in log n for n tags.
+    pub(crate) fn skips<'b>(&self, walk: &mut Walk<'b>, spot: &Spot<'b>, is_host: bool) -> bool
         requires rise { DoTagsRise self.now }
         requires context { is_host ≡ is_context spot.now.tree.fields }
-        ensures { result ≡ skips self.now spot.now.stamps spot.now.tree.fields }
+        ensures skips { result ≡ skips self.now spot.now.stamps spot.now.tree.fields }
+        ensures same { walk.new ≡ walk.old }
     {
         match self {
             Skip::Nothing => false,
-            Skip::Since(base) => is_host && spot.stamp() <= *base,
+            Skip::Since(base) => is_host && walk.stamp_of(spot) <= *base,
             Skip::Tags(tags) => tags.binary_search(&spot.tag()).is_ok(),
         }
     }

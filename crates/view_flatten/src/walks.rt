@@ -9,6 +9,7 @@ ghost use Rattle.view_flatten.specs.Walks.{HandsOut, entered_more};
 
 use counts::raise;
 use native_state::StateCell;
+use page_map::Near;
 use prop_table::{Label, NodeProps};
 use shadow_frame::Rect;
 use shadow_kinds::Kind;
@@ -21,6 +22,8 @@ pub struct Walk<'a> {
     forest: &'a Forest,
     stamps: &'a Stamps,
     entered: u64,
+    /// Where the next stamp is looked for first.
+    near: Near,
 }
 
 /// Some nodes of a walk, in order.
@@ -77,6 +80,19 @@ impl<'a> Walk<'a> {
             forest,
             stamps,
             entered: 0,
+            near: Near::start(),
+        }
+    }
+
+    /// The same walk, which goes on by itself.
+    pub fn again(&self) -> Walk<'a>
+        ensures { result ≡ self.now }
+    {
+        Walk {
+            forest: self.forest,
+            stamps: self.stamps,
+            entered: self.entered,
+            near: self.near,
         }
     }
 
@@ -99,6 +115,18 @@ impl<'a> Walk<'a> {
     {
         self.entered = raise(self.entered, 1);
         spot.children()
+    }
+
+    /// The stamp of a node, which is looked up when it is asked; 0 where the walk's stamps have none.
+    ///
+    /// It is fast where nodes are asked in the order of their tags.
+    pub fn stamp_of(&mut self, spot: &Spot<'a>) -> u64
+        ensures stamp { result ≡ stamp_in spot.now.stamps spot.now.tree.fields.fields.tag }
+        ensures same { self.new ≡ self.old }
+    {
+        spot.stamps
+            .get_near(&mut self.near, spot.tag())
+            .unwrap_or(0)
     }
 
     /// How many nodes were entered; from 2^64 - 1 on the count stands still.
@@ -176,7 +204,7 @@ impl<'a> Spot<'a> {
     }
 
     /// The same node.
-    pub(crate) fn again(&self) -> Spot<'a>
+    pub fn again(&self) -> Spot<'a>
         ensures { result ≡ self.now }
     {
         Spot {

@@ -1,5 +1,5 @@
 -- Between host trees in step there are updates alone.
-use Rattle.std.proofs.Common.{◌≡◌, ℕ, List, [], ◌∷◌, ◌++◌, map, Bool, true, false, not, cond, Option, Some, None, nat_eq, refl, ap, sym, ◌∙◌, subst, append-nil, drop, length, arith}
+use Rattle.std.proofs.Common.{◌≡◌, ℕ, List, [], ◌∷◌, ◌++◌, map, Bool, true, false, not, cond, Option, Some, nat_eq, refl, ap, sym, ◌∙◌, subst, append-nil, drop, length, arith}
 use Rattle.std.specs.Prelude.{filter, ◌||◌}
 use Rattle.std.specs.List.{AllByRecursion, IsDistinct, flat_map, list_any}
 use Rattle.std.proofs.lemmas.Bool.{eq-eqb}
@@ -24,7 +24,7 @@ pub same_host_tags : (old new : PlainHostTree) → AreInStep old new → host_ta
 same_host_tags old new step = tags_by_stand old ∙ ap (map (λ stand. stand.1)) step ∙ sym (tags_by_stand new)
 
 -- the children of a host parent, by where the views stand
-children_by_stand : (tree : PlainHostTree) (parent : ℕ) → children_at tree parent ≡ map (λ stand. stand.1) (filter (λ stand. nat_eq stand.0 parent) (stands_of tree))
+pub children_by_stand : (tree : PlainHostTree) (parent : ℕ) → children_at tree parent ≡ map (λ stand. stand.1) (filter (λ stand. nat_eq stand.0 parent) (stands_of tree))
 children_by_stand [] parent = refl
 children_by_stand (placed ∷ others) parent =
     elim (nat_eq placed.parent parent) as (λ b. host_tags (cond b (placed ∷ filter (λ placed. nat_eq placed.parent parent) others) (filter (λ placed. nat_eq placed.parent parent) others))

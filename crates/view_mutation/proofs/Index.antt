@@ -1,7 +1,7 @@
 -- An index of the views by their tags.
-use Rattle.std.proofs.Common.{◌≡◌, ℕ, Bool, zero, suc, ◌+◌, ◌-◌, ◌<◌, ◌≤◌, get_or, drop, drop-cons, add-one, List, length, arith, [], ◌∷◌, true, false, cond, Option, Some, is_some, not, map, refl, ap, sym, ◌∙◌}
+use Rattle.std.proofs.Common.{◌≡◌, ℕ, suc, ◌+◌, ◌≤◌, List, length, arith, [], ◌∷◌, true, false, cond, Option, Some, is_some, not, map, refl, ap, ◌∙◌}
 use Rattle.std.specs.Prelude.{filter, nat_eq, ◌||◌}
-use Rattle.std.specs.BTreeMap.{BTreeMap, get}
+use Rattle.std.specs.FinMap.{find}
 use Rattle.std.specs.List.{flat_map, slice_get}
 use Rattle.std.specs.Option.{option_and_then, option_map}
 use Rattle.std.specs.Ordering.{nat_cmp}
@@ -15,6 +15,8 @@ use Rattle.view_mutation.specs.Shorthands.{deletes, creates, updates, host_paren
 use Rattle.view_mutation.specs.Children.{HaveFewChildren, removes_by, inserts_by}
 use Rattle.view_mutation.specs.Lookups.{deletes_by, creates_by, updates_by, view_by, place_at, place_by}
 use Rattle.view_flatten.specs.Placed.{plain_place, plain_places}
+use Rattle.view_mutation.specs.Pairs.{pairs_at}
+use Rattle.view_mutation.proofs.ByNumber.{find_kept, same_number}
 
 -- the view of a tag is that of its first place
 pub view_at_places : (places : List Placed) (tag : ℕ) → option_map (λ placed. (plain_place placed).view) (place_at places tag) ≡ view_at (plain_places places) tag
@@ -26,37 +28,32 @@ view_at_places (placed ∷ others) tag =
     ]
 
 -- by an index of places it is found
-pub indexed_views : (index : BTreeMap ℕ ℕ) (places : List Placed) → ((tag : ℕ) → place_by index places tag ≡ place_at places tag) → (tag : ℕ) → view_by index places tag ≡ view_at (plain_places places) tag
+pub indexed_views : (index : List (ℕ × ℕ)) (places : List Placed) → ((tag : ℕ) → place_by index places tag ≡ place_at places tag) → (tag : ℕ) → view_by index places tag ≡ view_at (plain_places places) tag
 indexed_views index places h tag = ap (option_map (λ placed. (plain_place placed).view)) (h tag) ∙ view_at_places places tag
 
--- the first place from an index on: that one where it has the tag, and else the first one after it
-pub place_more : (places : List Placed) (at tag : ℕ) (d : Placed) → at < length places → d ≡ get_or places at d
-    → cond (nat_eq (plain_place d).tag tag) (slice_get places at) (place_at (drop (at + 1) places) tag) ≡ place_at (drop at places) tag
-place_more places at tag d h e =
-    let f : drop at places ≡ get_or places at d ∷ drop (suc at) places = drop-cons places at d h in
-    let g : slice_get places at ≡ Some (get_or places at d) = slice_get-at places at d h in
-    rw (f, g, ← e, add-one) refl
-  where
-    slice_get-at : (xs : List Placed) (i : ℕ) (d : Placed) → i < length xs → slice_get xs i ≡ Some (get_or xs i d)
-    slice_get-at [] i d h = absurd (omega arith)
-    slice_get-at (x ∷ xs) zero d h = refl
-    slice_get-at (x ∷ xs) (suc i) d h = slice_get-at xs i d (omega arith)
+-- the tags of places with where each stands, from an index on
+abbrev pub indexed_from : ℕ → List Placed → List (ℕ × ℕ)
+indexed_from at [] = []
+indexed_from at (placed ∷ others) = ((plain_place placed).tag, at) ∷ indexed_from (at + 1) others
 
--- once the place before an index is put into it, the index finds the first places from there on
-pub index_more : (old new : BTreeMap ℕ ℕ) (places : List Placed) (end key : ℕ) (d : Placed) → 0 < end → end - 1 < length places → d ≡ get_or places (end - 1) d → key ≡ (plain_place d).tag
-    → ((q : ℕ) → get nat_cmp new q ≡ cond (nat_eq key q) (Some (end - 1)) (get nat_cmp old q)) → ((tag : ℕ) → place_by old places tag ≡ place_at (drop end places) tag)
-    → (tag : ℕ) → place_by new places tag ≡ place_at (drop (end - 1) places) tag
-index_more old new places end key d low within is key_is got seen tag =
-    let e : (end - 1) + 1 ≡ end = omega arith in
-    ap (option_and_then (λ at. slice_get places at)) (got tag)
-    ∙ either (nat_eq key tag)
-    ∙ (λ i. cond (nat_eq (key_is i) tag) (slice_get places (end - 1)) (seen tag i))
-    ∙ ap (λ n. cond (nat_eq (plain_place d).tag tag) (slice_get places (end - 1)) (place_at (drop n places) tag)) (sym e)
-    ∙ place_more places (end - 1) tag d within is
-  where
-    either : (b : Bool) → option_and_then (λ at. slice_get places at) (cond b (Some (end - 1)) (get nat_cmp old tag)) ≡ cond b (slice_get places (end - 1)) (place_by old places tag)
-    either true = refl
-    either false = refl
+-- what is found among them is the first place of a tag
+found_from : (g : ℕ → Option Placed) (at : ℕ) (places : List Placed) (tag : ℕ) → ((k : ℕ) → g (at + k) ≡ slice_get places k) → option_and_then g (find nat_cmp tag (indexed_from at places)) ≡ place_at places tag
+found_from g at [] tag h = refl
+found_from g at (placed ∷ others) tag h =
+    let here : g at ≡ Some placed = let e : at ≡ at + 0 = omega arith in ap g e ∙ h 0 in
+    let rest = found_from g (at + 1) others tag (λ k. let e : (at + 1) + k ≡ at + suc k = omega arith in ap g e ∙ h (suc k)) in
+    ap (λ b. option_and_then g (cond b (Some at) (find nat_cmp tag (indexed_from (at + 1) others)))) (same_number tag (plain_place placed).tag)
+    ∙ elim (nat_eq (plain_place placed).tag tag) as (λ b. option_and_then g (cond b (Some at) (find nat_cmp tag (indexed_from (at + 1) others))) ≡ cond b (Some placed) (place_at others tag)) [
+      | true ↦ here
+      | false ↦ rest
+    ]
+
+-- so it is in the order of the tags
+pub index_found : (pairs sorted : List (ℕ × ℕ)) (places : List Placed) → pairs ≡ indexed_from 0 places → ((tag : ℕ) → pairs_at sorted tag ≡ pairs_at pairs tag)
+    → (tag : ℕ) → place_by sorted places tag ≡ place_at places tag
+index_found pairs sorted places is kept tag =
+    ap (option_and_then (λ at. slice_get places at)) (find_kept pairs sorted tag (kept tag) ∙ ap (find nat_cmp tag) is)
+    ∙ found_from (λ at. slice_get places at) 0 places tag (λ k. let e : 0 + k ≡ k = omega arith in ap (slice_get places) e)
 
 -- a tag is there exactly where it has a view
 pub has_tag_by_view : (tree : PlainHostTree) (tag : ℕ) → is_some (view_at tree tag) ≡ has_tag tree tag

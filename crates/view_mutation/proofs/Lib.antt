@@ -1,4 +1,5 @@
 pub mod Lists
+pub mod ByNumber
 pub mod Index
 pub mod Five
 pub mod Shows
@@ -17,3 +18,7 @@ pub mod SameSkipped
 pub mod FiveTagged
 pub mod InStep
 pub mod InStepPlaces
+pub mod Stepped
+pub mod SteppedTrees
+pub mod Paired
+pub mod SteppedMutations

@@ -1,13 +1,14 @@
 -- A list of views that is taken apart at an index.
 use Rattle.std.proofs.Common.{◌≡◌, ℕ, suc, ◌+◌, ◌<◌, ◌≤◌, List, [], ◌∷◌, ◌++◌, length, get_or, drop, drop-cons, map, Bool, add-one, arith, refl, ap, sym, ◌∙◌, append_assoc, min, inl, inr}
 use Rattle.std.specs.Prelude.{filter}
-use Rattle.std.proofs.lemmas.List.{map-append, drop_all}
+use Rattle.std.proofs.lemmas.List.{map-append, drop_all, drop-map}
 use Rattle.std.proofs.lemmas.Bool.{cases_lt}
 use Rattle.std.proofs.lemmas.List.Elements.{filter-append}
 use Rattle.view_flatten.specs.declared.placing.Placed.{Placed}
 use Rattle.host_views.specs.declared.Mutation.{Mutation}
 use Rattle.host_views.specs.Plain.{PlainPlacedView, PlainHostTree, PlainMutation, plain_mutation}
 use Rattle.view_mutation.specs.Mutations.{common_prefix}
+use Rattle.view_mutation.specs.Children.{tags_in}
 use Rattle.view_mutation.specs.Lookups.{IsListed}
 use Rattle.view_flatten.specs.Placed.{plain_place, plain_places}
 
@@ -41,9 +42,14 @@ prefix_none [] = refl
 prefix_none (x ∷ xs) = refl
 
 -- one of the two lists is at its end
-pub prefix_end : (old new : List ℕ) (i : ℕ) → min (length old) (length new) ≤ i → common_prefix (drop i old) (drop i new) ≡ 0
+pub prefix_end : (old new : List (ℕ × ℕ)) (i : ℕ) → min (length old) (length new) ≤ i → common_prefix (tags_in (drop i old)) (tags_in (drop i new)) ≡ 0
 prefix_end old new i h =
-    elim (cases_lt i (length old)) as (λ c. common_prefix (drop i old) (drop i new) ≡ 0) [
-      | inl within ↦ ap (common_prefix (drop i old)) (drop_all i new (omega arith)) ∙ prefix_none (drop i old)
-      | inr past ↦ ap (λ tags. common_prefix tags (drop i new)) (drop_all i old past)
+    elim (cases_lt i (length old)) as (λ c. common_prefix (tags_in (drop i old)) (tags_in (drop i new)) ≡ 0) [
+      | inl within ↦ ap (λ pairs. common_prefix (tags_in (drop i old)) (tags_in pairs)) (drop_all i new (omega arith)) ∙ prefix_none (tags_in (drop i old))
+      | inr past ↦ ap (λ pairs. common_prefix (tags_in pairs) (tags_in (drop i new))) (drop_all i old past)
     ]
+
+-- what is listed of the tags after those that stay
+pub after_staying : (f : ℕ → List ℕ → List PlainMutation) (pairs wanted : List (ℕ × ℕ)) (stay whole : ℕ) → pairs ≡ wanted → stay ≡ whole
+    → f stay (tags_in (drop stay pairs)) ≡ f whole (drop whole (tags_in wanted))
+after_staying f pairs wanted stay whole h k = ap (f stay) (sym (drop-map (λ pair. pair.1) stay pairs)) ∙ (λ i. f (k i) (drop (k i) (tags_in (h i))))

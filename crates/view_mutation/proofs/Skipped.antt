@@ -19,7 +19,7 @@ use Rattle.view_flatten.proofs.Shorthands.{is_context}
 use Rattle.view_flatten.proofs.Agree.{same_any, same_filter, where_any}
 use Rattle.view_flatten.proofs.Alike.{AreSameBelow, each_context, same_below}
 use Rattle.view_flatten.proofs.ByZ.{filter_map}
-use Rattle.view_flatten.proofs.Distinct.{each_then, each_of_two}
+use Rattle.view_flatten.proofs.Distinct.{each_in_first, each_in_second, each_then, each_of_two}
 use Rattle.view_flatten.proofs.Inside.{Along, absent, absent_tree, block, each_along, inside, is_within, only_found, passes_by_key}
 use Rattle.view_flatten.proofs.Lines.{tags_below}
 use Rattle.view_flatten.proofs.Order.{tag_at, tags_at, each_kept, each_passes}
@@ -55,7 +55,7 @@ each_tree forest distinct =
         record { tree = tree; found = e; same = ap (λ (d : Descendant). d.settled) (sym same) }
 
 -- the nodes in preorder, and the same without their ancestors
-settled_in_preorder : (above : List SettledFields) (forest : PlainForest SettledFields) → map (λ here. here.settled) (descendants_below above forest) ≡ preorder forest
+pub settled_in_preorder : (above : List SettledFields) (forest : PlainForest SettledFields) → map (λ here. here.settled) (descendants_below above forest) ≡ preorder forest
 settled_in_preorder above none = refl
 settled_in_preorder above (node settled children siblings) =
     ap (λ r. settled ∷ r)
@@ -97,7 +97,7 @@ not_twice : (b : Bool) → not (not b) ≡ b
 not_twice true = refl
 not_twice false = refl
 
-same_from_both : (a b : Bool) → (a ≡ true → b ≡ true) → (b ≡ true → a ≡ true) → a ≡ b
+pub same_from_both : (a b : Bool) → (a ≡ true → b ≡ true) → (b ≡ true → a ≡ true) → a ≡ b
 same_from_both true b h k = sym (h refl)
 same_from_both false true h k = k refl
 same_from_both false false h k = refl
@@ -128,6 +128,29 @@ among_passing p q h tag (here ∷ nodes) e =
 -- nodes that two tests tell alike are as many
 same_count : (p q : Descendant → Bool) (nodes : List Descendant) → AllByRecursion (λ here. p here ≡ q here) nodes → count_by p nodes ≡ count_by q nodes
 same_count p q nodes h = sym (length-filter p nodes) ∙ ap length (same_filter p q nodes h) ∙ length-filter q nodes
+
+or_nothing : (b : Bool) → (b || false) ≡ b
+or_nothing true = refl
+or_nothing false = refl
+
+-- tests that tell each node with its ancestors alike prune alike
+pruned_alike : (p q : SettledFields → Bool) (above : List SettledFields) (forest : PlainForest SettledFields) → list_any p above ≡ false → list_any q above ≡ false
+    → AllByRecursion (λ here. list_any p (line_of here) ≡ list_any q (line_of here)) (descendants_below above forest) → pruned p forest ≡ pruned q forest
+pruned_alike p q above none e f h = refl
+pruned_alike p q above (node settled children siblings) e f h =
+    let same = λ (here : Descendant). list_any p (line_of here) ≡ list_any q (line_of here) in
+    let own : p settled ≡ q settled = sym (ap (λ b. p settled || b) e ∙ or_nothing (p settled)) ∙ h.0 ∙ ap (λ b. q settled || b) f ∙ or_nothing (q settled) in
+    let first = each_in_first same (descendants_below (settled ∷ above) children) (descendants_below above siblings) h.1 in
+    let second = each_in_second same (descendants_below (settled ∷ above) children) (descendants_below above siblings) h.1 in
+    let below : cond (p settled) none (pruned p children) ≡ cond (q settled) none (pruned q children) =
+    elim (cases_Bool (p settled)) [
+      | inl is ↦ ap (λ b. cond b none (pruned p children)) is ∙ sym (ap (λ b. cond b none (pruned q children)) (sym own ∙ is))
+      | inr isnt ↦
+          ap (λ b. cond b none (pruned p children)) isnt
+          ∙ pruned_alike p q (settled ∷ above) children (ap (λ b. b || list_any p above) isnt ∙ e) (ap (λ b. b || list_any q above) (sym own ∙ isnt) ∙ f) first
+          ∙ sym (ap (λ b. cond b none (pruned q children)) (sym own ∙ isnt))
+    ] in
+    λ i. node settled (below i) (pruned_alike p q above siblings e f second i)
 
 module _ (stamps : ℕ → ℕ) (base : ℕ) (old new : PlainForest SettledFields) (distinct_old : IsDistinct nat_eq (tags_of (contents_of old))) (distinct_new : IsDistinct nat_eq (tags_of (contents_of new)))
     (low_old : AreTagged old) (low_new : AreTagged new) (alike : AreAlikeSince stamps base old new) where
@@ -314,12 +337,22 @@ module _ (stamps : ℕ → ℕ) (base : ℕ) (old new : PlainForest SettledField
         | inr later ↦ or_right (has_one_of tags settled) (list_any (has_one_of tags) above) (line_skipped above h.1 later)
       ]
 
+  -- a node and its ancestors have one that is unchanged exactly where they have a skipped one
+  each_line : AllByRecursion (λ here. list_any kept (line_of here) ≡ list_any (has_one_of tags) (line_of here)) (descendants old)
+  each_line =
+      let nodes = descendants old in
+      let each = each_then (λ here. list_any (has_one_of tags) here.above ≡ is_inner old tags (tag_at here)) IsSkippedIfKept skipped_if_kept nodes (each_tag_inner old distinct_old low_old tags all_old) in
+      each_then (λ here. IsSkippedIfKept here × Along IsSkippedIfKept here.above) (λ here. list_any kept (line_of here) ≡ list_any (has_one_of tags) (line_of here))
+      (λ here h. same_from_both (list_any kept (line_of here)) (list_any (has_one_of tags) (line_of here)) (line_skipped (line_of here) h) (any_more (has_one_of tags) kept kept_if_skipped (line_of here))) nodes
+      (each_of_two IsSkippedIfKept (λ here. Along IsSkippedIfKept here.above) nodes each (each_along IsSkippedIfKept [] old tt each))
+
   -- as many old nodes lie outside the unchanged contexts as outside the skipped ones
   pub skipping_counts : count_outside (is_kept_since stamps base new) old ≡ count_outside (has_one_of (skipped_tags (is_unchanged_since stamps base) new)) old
   skipping_counts =
-      let nodes = descendants old in
-      let each = each_then (λ here. list_any (has_one_of tags) here.above ≡ is_inner old tags (tag_at here)) IsSkippedIfKept skipped_if_kept nodes (each_tag_inner old distinct_old low_old tags all_old) in
-      same_count (λ here. not (list_any kept (line_of here))) (λ here. not (list_any (has_one_of tags) (line_of here))) nodes
-      (each_then (λ here. IsSkippedIfKept here × Along IsSkippedIfKept here.above) (λ here. not (list_any kept (line_of here)) ≡ not (list_any (has_one_of tags) (line_of here)))
-      (λ here h. ap not (same_from_both (list_any kept (line_of here)) (list_any (has_one_of tags) (line_of here)) (line_skipped (line_of here) h) (any_more (has_one_of tags) kept kept_if_skipped (line_of here)))) nodes
-      (each_of_two IsSkippedIfKept (λ here. Along IsSkippedIfKept here.above) nodes each (each_along IsSkippedIfKept [] old tt each)))
+      same_count (λ here. not (list_any kept (line_of here))) (λ here. not (list_any (has_one_of tags) (line_of here))) (descendants old)
+      (each_then (λ here. list_any kept (line_of here) ≡ list_any (has_one_of tags) (line_of here)) (λ here. not (list_any kept (line_of here)) ≡ not (list_any (has_one_of tags) (line_of here)))
+      (λ here h. ap not h) (descendants old) each_line)
+
+  -- and the same is left of the old forest
+  pub skipping_prunes : pruned (is_kept_since stamps base new) old ≡ pruned (has_one_of (skipped_tags (is_unchanged_since stamps base) new)) old
+  skipping_prunes = pruned_alike kept (has_one_of tags) [] old refl refl each_line

@@ -1,16 +1,16 @@
--- The children of each host parent, from an index, and the removes and inserts by what is known of them.
-use Rattle.std.specs.Prelude.{ℕ, ◌≤◌, List, [], length, drop, unwrap_or}
-use Rattle.std.specs.Option.{option_map}
-use Rattle.std.specs.Ordering.{nat_cmp}
-use Rattle.std.specs.BTreeMap.{BTreeMap, get}
-use Rattle.std.specs.declared.vec.Vec.{Vec}
-use Rattle.std.specs.declared.alloc.Global.{Global}
+-- The children of each host parent, from host parents with tags, and the removes and inserts by what is known of them.
+use Rattle.std.specs.Prelude.{ℕ, ◌≤◌, List, length, drop, map}
 use Rattle.host_views.specs.Plain.{PlainMutation}
 use Rattle.view_mutation.specs.Mutations.{common_prefix, removes_from, inserts_from}
+use Rattle.view_mutation.specs.Pairs.{pairs_at}
 
--- the children that an index has at a host parent
-abbrev pub children_by : BTreeMap ℕ (Vec ℕ Global) → ℕ → List ℕ
-children_by index parent = unwrap_or (option_map (λ tags. tags.items) (get nat_cmp index parent)) []
+-- the tags of pairs of a host parent and a tag
+abbrev pub tags_in : List (ℕ × ℕ) → List ℕ
+tags_in pairs = map (λ pair. pair.1) pairs
+
+-- the children of a host parent, by such pairs
+abbrev pub children_by : List (ℕ × ℕ) → ℕ → List ℕ
+children_by pairs parent = tags_in (pairs_at pairs parent)
 
 -- a host parent has at most 2,000 children
 abbrev pub HaveFewChildren : (ℕ → List ℕ) → Type 0

@@ -1,4 +1,5 @@
 pub mod Mutations
+pub mod Pairs
 pub mod Lookups
 pub mod Leads
 pub mod Children
@@ -6,3 +7,4 @@ pub mod Shorthands
 pub mod Since
 pub mod SameSkipped
 pub mod InStep
+pub mod Steps

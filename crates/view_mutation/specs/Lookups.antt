@@ -1,9 +1,9 @@
 -- The lists of mutations that go by tags, from what is known at each tag.
 use Rattle.std.specs.Prelude.{◌≡◌, ℕ, List, ◌++◌, not, nat_eq, Option, is_some, filter, map}
 use Rattle.std.specs.List.{find, slice_get}
+use Rattle.std.specs.FinMap as pairs
 use Rattle.std.specs.Option.{option_and_then, option_map}
 use Rattle.std.specs.Ordering.{nat_cmp}
-use Rattle.std.specs.BTreeMap.{BTreeMap, get}
 use Rattle.host_views.specs.declared.HostView.{HostView}
 use Rattle.host_views.specs.declared.Mutation.{Mutation}
 use Rattle.host_views.specs.Plain.{PlainHostTree, PlainMutation, create, delete, update, plain_mutation}
@@ -15,12 +15,12 @@ use Rattle.view_mutation.specs.Mutations.{is_other_view}
 abbrev pub place_at : List Placed → ℕ → Option Placed
 place_at places tag = find (λ placed. nat_eq (plain_place placed).tag tag) places
 
--- the place of a tag by an index of places
-abbrev pub place_by : BTreeMap ℕ ℕ → List Placed → ℕ → Option Placed
-place_by index places tag = option_and_then (λ at. slice_get places at) (get nat_cmp index tag)
+-- the place of a tag by an index of places: tags with where their places stand
+abbrev pub place_by : List (ℕ × ℕ) → List Placed → ℕ → Option Placed
+place_by index places tag = option_and_then (λ at. slice_get places at) (pairs.find nat_cmp tag index)
 
 -- the view of a tag by an index of places
-abbrev pub view_by : BTreeMap ℕ ℕ → List Placed → ℕ → Option HostView
+abbrev pub view_by : List (ℕ × ℕ) → List Placed → ℕ → Option HostView
 view_by index places tag = option_map (λ placed. (plain_place placed).view) (place_by index places tag)
 
 -- deletes of the views whose tags are not known

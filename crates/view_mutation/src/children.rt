@@ -1,63 +1,70 @@
 //! Removes and inserts: the children of each host parent.
 
-ghost use Rattle.std.specs.Prelude.{◌≡◌, ◌≤◌, ◌++◌, ℕ, [], ◌∷◌, length, drop, IfOk, OnOk};
+ghost use Rattle.std.specs.Prelude.{◌≡◌, ◌≤◌, ℕ, ◌∷◌, length, drop, IfOk, OnOk};
 ghost use Rattle.std.specs.List.{flat_map};
 ghost use Rattle.host_views.specs.Plain.{children_at, host_tags};
-ghost use Rattle.view_flatten.specs.Placed.{plain_place, plain_places};
+ghost use Rattle.view_flatten.specs.Placed.{plain_places};
 ghost use Rattle.view_mutation.specs.Mutations.{common_prefix, inserts_from, removes_from};
-ghost use Rattle.view_mutation.specs.Children.{HaveFewChildren, inserts_by, children_by, removes_by};
+ghost use Rattle.view_mutation.specs.Children.{HaveFewChildren, inserts_by, children_by, removes_by, tags_in};
 ghost use Rattle.view_mutation.specs.Lookups.{IsListed};
+ghost use Rattle.view_mutation.specs.Pairs.{pairs_at};
 
+use crate::pairs::{pairs_of, put_in_order};
 use host_views::Mutation;
 use sqlite_items::Items;
 use std::alloc::{AllocError, Global};
-use std::collections::BTreeMap;
+use std::marker::Model;
 use view_flatten::Placed;
 
-/// The tags of each host parent's children, in their order.
-pub type Children = BTreeMap<u32, Vec<u32>>;
+/// The host parent and the tag of each place, in the order of the host parents; those of one host
+/// parent as they stand.
+#[derive(Drop)]
+pub struct Children {
+    pairs: Vec<(u32, u32)>,
+}
 
-/// Adds a view to the children of its host parent, as the last one.
-fn add_child(children: &mut Children, placed: &Placed<'_>) -> Result<(), AllocError>
-    ensures { OnOk result ((parent : ℕ) → children_by children.new parent ≡ children_by children.old parent ++ children_at (plain_place placed.now ∷ []) parent) }
-{
-    children
-        .entry(placed.parent)?
-        .or_default()
-        .push(placed.tag())?;
-    Ok(())
+impl Model for Children {
+    ghost use Rattle.std.specs.Prelude.{List, ℕ};
+    ghost use Rattle.std.specs.Coded.{coded_list, coded_ℕ, coded×};
+    ghost use Rattle.std.specs.List.Sorted.{IsNonDecreasingBy};
+
+    ghost Value = { List (ℕ × ℕ) };
+
+    ghost coded = { coded_list (coded× coded_ℕ coded_ℕ) };
+
+    ghost view = { λ children. children.pairs.items };
+
+    ghost invariant = { λ children. IsNonDecreasingBy (λ pair. pair.0) children.pairs.items };
 }
 
 /// The children of each host parent of a tree.
 pub fn children_of(alloc: Global, places: &[Placed<'_>]) -> Result<Children, AllocError>
     ensures { IfOk result (λ children. (parent : ℕ) → children_by children parent ≡ children_at (plain_places places.now) parent) }
 {
-    let mut children = BTreeMap::new(alloc);
+    let mut pairs = Vec::with_capacity(alloc, places.len())?;
     for placed in places {
-        add_child(&mut children, placed)?;
+        pairs.push((placed.parent, placed.tag()))?;
     }
-    Ok(children)
+    put_in_order(&mut pairs)?;
+    Ok(Children { pairs })
 }
 
 /// The children of a host parent; one that the tree does not have has none.
-fn tags_at(children: &Children, parent: u32) -> &[u32]
-    ensures { result.now ≡ children_by children.now parent }
+fn tags_at(children: &Children, parent: u32) -> &[(u32, u32)]
+    ensures { result.now ≡ pairs_at children.now parent }
 {
-    match children.get(&parent) {
-        Some(tags) => tags.as_slice(),
-        None => &[],
-    }
+    pairs_of(&children.pairs, parent)
 }
 
 /// How many tags at the begin of both lists are the same.
-fn staying(old: &[u32], new: &[u32]) -> usize
-    ensures prefix { result ≡ common_prefix old.now new.now }
+fn staying(old: &[(u32, u32)], new: &[(u32, u32)]) -> usize
+    ensures prefix { result ≡ common_prefix (tags_in old.now) (tags_in new.now) }
     ensures old { result ≤ length old.now }
     ensures new { result ≤ length new.now }
 {
     let shorter = old.len().min(new.len());
     for at in 0..shorter {
-        if old[at] != new[at] {
+        if old[at].1 != new[at].1 {
             return at;
         }
     }
@@ -68,17 +75,17 @@ fn staying(old: &[u32], new: &[u32]) -> usize
 fn add_removes_from(
     list: &mut Items<Mutation>,
     parent: u32,
-    tags: &[u32],
+    tags: &[(u32, u32)],
     stay: usize,
 ) -> Result<(), AllocError>
     requires stay { stay ≤ length tags.now }
     requires count { length tags.now ≤ 2000 }
-    ensures { OnOk result (IsListed list.old (removes_from parent stay (drop stay tags.now)) list.new) }
+    ensures { OnOk result (IsListed list.old (removes_from parent stay (tags_in (drop stay tags.now))) list.new) }
 {
     for at in (stay..tags.len()).rev() {
         list.push(Mutation::Remove {
             parent,
-            tag: tags[at],
+            tag: tags[at].1,
             index: at as u32,
         })?;
     }
@@ -121,17 +128,17 @@ pub fn add_removes(
 fn add_inserts_from(
     list: &mut Items<Mutation>,
     parent: u32,
-    tags: &[u32],
+    tags: &[(u32, u32)],
     stay: usize,
 ) -> Result<(), AllocError>
     requires stay { stay ≤ length tags.now }
     requires count { length tags.now ≤ 2000 }
-    ensures { OnOk result (IsListed list.old (inserts_from parent stay (drop stay tags.now)) list.new) }
+    ensures { OnOk result (IsListed list.old (inserts_from parent stay (tags_in (drop stay tags.now))) list.new) }
 {
     for at in stay..tags.len() {
         list.push(Mutation::Insert {
             parent,
-            tag: tags[at],
+            tag: tags[at].1,
             index: at as u32,
         })?;
     }

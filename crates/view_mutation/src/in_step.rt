@@ -31,7 +31,7 @@ pub fn are_in_step(old: &[Placed<'_>], new: &[Placed<'_>]) -> bool
 }
 
 /// Adds an update, where a view differs from the one that it was.
-fn add_update(
+pub fn add_update(
     alloc: Global,
     list: &mut Items<Mutation>,
     was: &Placed<'_>,

@@ -18,6 +18,8 @@ ghost use Rattle.view_mutation.specs.Since.{AreTagged};
 mod children;
 mod in_step;
 pub mod laws;
+mod pairs;
+mod steps;
 mod tags;
 #[cfg(test)]
 mod tests;
@@ -28,6 +30,7 @@ use in_step::{are_in_step, updates_of};
 use shadow_node::{Forest, Stamps};
 use sqlite_items::Items;
 use std::alloc::{AllocError, Global};
+use steps::step;
 use tags::{add_creates, add_deletes, add_updates, index_of};
 use view_flatten::{Placed, Places, Skip, places};
 pub use view_flatten::{Spot, Spots, Walk};
@@ -87,12 +90,8 @@ pub fn mutations(alloc: Global, old: &Forest, new: &Forest) -> Result<Items<Muta
     mutations_of(alloc, &old.list, &new.list)
 }
 
-/// The mutations that lead from the host tree of one walk's forest to that of another's.
-///
-/// Contexts that are unchanged since the base are not entered, nor is what stands for them in the old
-/// forest: the two must be alike below them, and they must be shown in both or in neither. The call
-/// fails for want of memory alone.
-pub fn mutations_since(
+/// The mutations between the host trees of two walks' forests, by the places of their views.
+fn mutations_apart(
     alloc: Global,
     base: u64,
     old: &mut Walk<'_>,
@@ -114,4 +113,30 @@ pub fn mutations_since(
     skipped.sort()?;
     let old_places = places(alloc, old, &Skip::Tags(&skipped))?;
     mutations_in_step(alloc, &old_places.list, &new_places)
+}
+
+/// The mutations that lead from the host tree of one walk's forest to that of another's.
+///
+/// Contexts that are unchanged since the base are not entered, nor is what stands for them in the old
+/// forest: the two must be alike below them, and they must be shown in both or in neither. The call
+/// fails for want of memory alone.
+pub fn mutations_since(
+    alloc: Global,
+    base: u64,
+    old: &mut Walk<'_>,
+    new: &mut Walk<'_>,
+) -> Result<Items<Mutation>, AllocError>
+    requires old { IsForestInLimits old.old.forest }
+    requires old_tags { AreTagged old.old.forest }
+    requires new { IsForestInLimits new.old.forest }
+    requires new_tags { AreTagged new.old.forest }
+    requires alike { AreAlikeSince (stamp_in new.old.stamps) base old.old.forest new.old.forest }
+    ensures list { IfOk result (λ list. map plain_mutation list ≡ mutations_between (host_tree_of old.old.forest) (host_tree_of new.old.forest)) }
+    ensures old_entered { OnOk result (old.new ≡ record old.old { entered = raised old.old.entered (count_outside (is_kept_since (stamp_in new.old.stamps) base new.old.forest) old.old.forest) }) }
+    ensures new_entered { OnOk result (new.new ≡ record new.old { entered = raised new.old.entered (count_outside (is_unchanged_since (stamp_in new.old.stamps) base) new.old.forest) }) }
+{
+    match step(alloc, base, old, new)? {
+        Some(list) => Ok(list),
+        None => mutations_apart(alloc, base, old, new),
+    }
 }

@@ -9,32 +9,52 @@ ghost use Rattle.view_mutation.specs.Mutations.{is_other_view};
 ghost use Rattle.view_mutation.specs.Lookups.{IsListed, creates_by, deletes_by, view_by, place_at, place_by, updates_by};
 ghost use Rattle.view_mutation.specs.SameSkipped.{IsSameAsBefore, IsSameButOrigin};
 
+use crate::pairs::{first_of, put_in_order};
 use host_views::Mutation;
 use shadow_kinds::have_same_rows;
 use sqlite_items::Items;
 use std::alloc::{AllocError, Global};
-use std::collections::BTreeMap;
+use std::marker::Model;
 use view_flatten::Placed;
 
-/// Where the first place of each tag stands in a list.
-pub type Index = BTreeMap<u32, usize>;
+/// The tags of a list of places with where each stands, in the order of the tags; those of one tag
+/// as they stand.
+#[derive(Drop)]
+pub struct Index {
+    pairs: Vec<(u32, usize)>,
+}
 
-/// Where the first place of each tag stands.
+impl Model for Index {
+    ghost use Rattle.std.specs.Prelude.{List, ℕ};
+    ghost use Rattle.std.specs.Coded.{coded_list, coded_ℕ, coded×};
+    ghost use Rattle.std.specs.List.Sorted.{IsNonDecreasingBy};
+
+    ghost Value = { List (ℕ × ℕ) };
+
+    ghost coded = { coded_list (coded× coded_ℕ coded_ℕ) };
+
+    ghost view = { λ index. index.pairs.items };
+
+    ghost invariant = { λ index. IsNonDecreasingBy (λ pair. pair.0) index.pairs.items };
+}
+
+/// Where the places of each tag stand.
 pub fn index_of(alloc: Global, places: &[Placed<'_>]) -> Result<Index, AllocError>
     ensures { IfOk result (λ index. (tag : ℕ) → place_by index places.now tag ≡ place_at places.now tag) }
 {
-    let mut index = BTreeMap::new(alloc);
-    for at in (0..places.len()).rev() {
-        index.insert(places[at].tag(), at)?;
+    let mut pairs = Vec::with_capacity(alloc, places.len())?;
+    for (at, placed) in places.iter().enumerate() {
+        pairs.push((placed.tag(), at))?;
     }
-    Ok(index)
+    put_in_order(&mut pairs)?;
+    Ok(Index { pairs })
 }
 
-/// The place of a tag, where it is known.
+/// The first place of a tag, where it is known.
 fn place_of<'p, 'a>(places: &'p [Placed<'a>], index: &Index, tag: u32) -> Option<&'p Placed<'a>>
     ensures { option_copied result ≡ place_by index.now places.now tag }
 {
-    let at = index.get(&tag)?;
+    let at = first_of(&index.pairs, tag)?;
     places.get(*at)
 }
 

@@ -1,5 +1,7 @@
 use Rattle.std.proofs.Common.{rules, arith, ◌≡◌, ◌+◌, ◌<◌, ◌≤◌, ◌∙◌, ap, refl, sym, subst, length, take, drop}
+use Rattle.std.specs.Prelude.{nat_lt}
 use Rattle.native_state.specs.Families.{cell_in}
+use Rattle.native_state.specs.Made.{nodes_more}
 use Rattle.shadow_kinds.specs.Traits.{is_leaf_of}
 use Rattle.shadow_node.specs.Forest.{PlainForest, depth_of, node_count}
 use Rattle.shadow_node.specs.Fields.{SettledFields, contents_of}
@@ -15,26 +17,6 @@ use Rattle.tree_settle.proofs.Steps.{HasRoomInside-rest, settled-pushed, settled
 use Rattle.tree_settle.proofs.WaySteps.{HasRoomInside-first, below_but, state_kept, kept_tree, kept_forest, made_none, made_stay, tree_but, rest_but, tags_pushed, tags_end, tags_none, tags_stay, tags_change}
 use Rattle.tree_settle.proofs.Unchanged.{no_tags-none_changes, no_tags-none_of, none_changes-settled, none_changes-settled_tree}
 use Rattle.tree_settle.proofs.along.+settle_along.Goals as goal
-
-pub settle_along_node-returns-then-is_kept-clause-node : goal.settle_along_node-returns-then-is_kept-clause-node
-settle_along_node-returns-then-is_kept-clause-node t c =
-    kept_tree c.args.size.before c.args.size.after (cell_in c.args.families.now) c.args.way.now c.args.node.now c.requires.but (sym c.way_under-is_on_way.ensures.leads ∙ c.if-not-is_on_way.true) (c.is_kept.ensures.0 c.if-is_kept.true)
-
-pub settle_along_node-returns-then-is_kept-clause-changed : goal.settle_along_node-returns-then-is_kept-clause-changed
-settle_along_node-returns-then-is_kept-clause-changed t c =
-    rw (none_changes-settled_tree c.args.size.after (cell_in c.args.families.now) c.args.node.now (kept_tree c.args.size.before c.args.size.after (cell_in c.args.families.now) c.args.way.now c.args.node.now c.requires.but (sym c.way_under-is_on_way.ensures.leads ∙ c.if-not-is_on_way.true) (c.is_kept.ensures.0 c.if-is_kept.true))) refl
-
-pub settle_along_node-returns-then-is_kept-clause-bounds : goal.settle_along_node-returns-then-is_kept-clause-bounds
-settle_along_node-returns-then-is_kept-clause-bounds t c =
-    subst IsTreeInBounds (kept_tree c.args.size.before c.args.size.after (cell_in c.args.families.now) c.args.way.now c.args.node.now c.requires.but (sym c.way_under-is_on_way.ensures.leads ∙ c.if-not-is_on_way.true) (c.is_kept.ensures.0 c.if-is_kept.true)) c.requires.frames
-
-pub settle_along_node-returns-then-is_kept-clause-made : goal.settle_along_node-returns-then-is_kept-clause-made
-settle_along_node-returns-then-is_kept-clause-made t c =
-    made_none _ _ (none_changes-settled_tree c.args.size.after (cell_in c.args.families.now) c.args.node.now (kept_tree c.args.size.before c.args.size.after (cell_in c.args.families.now) c.args.way.now c.args.node.now c.requires.but (sym c.way_under-is_on_way.ensures.leads ∙ c.if-not-is_on_way.true) (c.is_kept.ensures.0 c.if-is_kept.true)))
-
-pub settle_along_node-returns-then-is_kept-clause-tags : goal.settle_along_node-returns-then-is_kept-clause-tags
-settle_along_node-returns-then-is_kept-clause-tags t c =
-    tags_none _ _ (no_tags-none_of c.args.size.after (cell_in c.args.families.now) c.args.node.now (none_changes-settled_tree c.args.size.after (cell_in c.args.families.now) c.args.node.now (kept_tree c.args.size.before c.args.size.after (cell_in c.args.families.now) c.args.way.now c.args.node.now c.requires.but (sym c.way_under-is_on_way.ensures.leads ∙ c.if-not-is_on_way.true) (c.is_kept.ensures.0 c.if-is_kept.true))))
 
 pub settle_along_node-state_along-state-requires : goal.settle_along_node-state_along-state-requires
 settle_along_node-state_along-state-requires t c =
@@ -106,14 +88,43 @@ settle_along_in-settle_along_node-requires t c =
     let lt : c.loop-at.at < length c.nodes-nodes.result.now = c.loop-at-test.true in
     let left = forest_at-drop c.nodes-nodes.result.now c.loop-at.at c.index-nodes-at.result lt c.index-nodes-at.is in
     let counts = ap node_count left in
-    let count = ap (λ tree. node_count tree.children) c.deref.ensures in
+    let count = ap (λ tree. node_count tree.children) c.deref-in-loop-at.ensures in
     let frames = subst AreFramesInBounds left c.loop-at.invariant.frames in (
       omega (arith, count, counts, c.loop-at.invariant.within),
       (
-        rw c.deref.ensures (HasRoomInside-first c.args.size.after _ _ c.index-nodes-at.result.value left c.loop-at.invariant.room),
-        (rw c.deref.ensures (frames.0, frames.1), rw c.deref.ensures (tree_but c.args.size.before (cell_in c.args.families.now) c.args.way.now _ _ c.index-nodes-at.result.value left c.loop-at.invariant.but)),
+        rw c.deref-in-loop-at.ensures (HasRoomInside-first c.args.size.after _ _ c.index-nodes-at.result.value left c.loop-at.invariant.room),
+        (rw c.deref-in-loop-at.ensures (frames.0, frames.1), rw c.deref-in-loop-at.ensures (tree_but c.args.size.before (cell_in c.args.families.now) c.args.way.now _ _ c.index-nodes-at.result.value left c.loop-at.invariant.but)),
       ),
     )
+
+pub settle_along_in-loop-at-preserved-then-is_passed : goal.settle_along_in-loop-at-preserved-then-is_passed
+settle_along_in-loop-at-preserved-then-is_passed t c =
+    let lt : c.loop-at.at < length c.nodes-nodes.result.now = c.loop-at-test.true in
+    let left = forest_at-drop c.nodes-nodes.result.now c.loop-at.at c.index-nodes-at.result lt c.index-nodes-at.is in
+    let count = ap node_count left in
+    let changes = ap (changes_in c.args.size.after (cell_in c.args.families.now)) left in
+    let taken = taken_more c.nodes-nodes.result.now c.loop-at.at c.index-nodes-at.result lt c.index-nodes-at.is in
+    let passed = rw c.deref.ensures at c.is_passed.ensures.0 c.if-is_passed.true in
+    let but = tree_but c.args.size.before (cell_in c.args.families.now) c.args.way.now _ _ c.index-nodes-at.result.value left c.loop-at.invariant.but in
+    let frames = subst AreFramesInBounds left c.loop-at.invariant.frames in
+    let same = kept_tree c.args.size.before c.args.size.after (cell_in c.args.families.now) c.args.way.now c.index-nodes-at.result.value but passed.1 passed.0 in
+    let none = none_changes-settled_tree c.args.size.after (cell_in c.args.families.now) c.index-nodes-at.result.value same in
+    let tree = subst IsTreeInBounds same (frames.0, frames.1) in
+    let rest : changes_in c.args.size.after (cell_in c.args.families.now) (forest_at (drop c.loop-at.at c.nodes-nodes.result.now)) ≡ changes_in c.args.size.after (cell_in c.args.families.now) (forest_at (drop (c.loop-at.at + 1) c.nodes-nodes.result.now)) =
+    omega (arith, changes, none) in
+    record {
+      within = omega (arith, count, c.loop-at.invariant.within);
+      room = HasRoomInside-rest c.args.size.after (forest_at (drop c.loop-at.at c.nodes-nodes.result.now)) c.index-nodes-at.result.value.children (forest_at (drop (c.loop-at.at + 1) c.nodes-nodes.result.now)) c.index-nodes-at.result.value.fields left c.loop-at.invariant.room;
+      frames = frames.2;
+      but = rest_but c.args.size.before (cell_in c.args.families.now) c.args.way.now _ _ c.index-nodes-at.result.value left c.loop-at.invariant.but;
+      settled = settled-pushed c.args.size.after (cell_in c.args.families.now) _ _ _ c.index-nodes-at.result.value _ (trees_of (begun_or c.loop-at.all.items (take c.loop-at.at c.nodes-nodes.result.now))) _ left
+          same (rw taken (c.in_ok-push_kept.ensures.nodes (take c.loop-at.at c.nodes-nodes.result.now))) c.loop-at.invariant.settled;
+      bounds = λ later. c.loop-at.invariant.bounds (subst (λ (f : PlainForest SettledFields). AreFramesInBounds (settled_in c.args.size.after (cell_in c.args.families.now) (contents_of f))) (sym left) (tree.0, tree.1, later));
+      least = omega (arith, rest, c.loop-at.invariant.least);
+      begun = c.in_ok-push_kept.ensures.begun ∙ c.loop-at.invariant.begun ∙ ap (λ left. nat_lt left (changes_in c.args.size.after (cell_in c.args.families.now) c.args.forest.now)) rest;
+      counted = ap (nodes_more c.loop-at.made) (sym rest) ∙ c.loop-at.invariant.counted;
+      tags = tags_pushed c.args.size.after (cell_in c.args.families.now) _ _ c.index-nodes-at.result.value _ _ _ left (tags_none _ _ (no_tags-none_of c.args.size.after (cell_in c.args.families.now) c.index-nodes-at.result.value none)) c.loop-at.invariant.tags;
+    }
 
 pub settle_along_in-loop-at-preserved : goal.settle_along_in-loop-at-preserved
 settle_along_in-loop-at-preserved t c =
@@ -122,19 +133,19 @@ settle_along_in-loop-at-preserved t c =
     let count = ap node_count left in
     let changes = ap (changes_in c.args.size.after (cell_in c.args.families.now)) left in
     let taken = taken_more c.nodes-nodes.result.now c.loop-at.at c.index-nodes-at.result lt c.index-nodes-at.is in
-    let tree = rw c.deref.ensures at c.in_ok-new.ensures.bounds in
+    let tree = rw c.deref-in-loop-at.ensures at c.in_ok-new.ensures.bounds in
     record {
       within = omega (arith, count, c.loop-at.invariant.within);
       room = HasRoomInside-rest c.args.size.after (forest_at (drop c.loop-at.at c.nodes-nodes.result.now)) c.index-nodes-at.result.value.children (forest_at (drop (c.loop-at.at + 1) c.nodes-nodes.result.now)) c.index-nodes-at.result.value.fields left c.loop-at.invariant.room;
       frames = (subst AreFramesInBounds left c.loop-at.invariant.frames).2;
       but = rest_but c.args.size.before (cell_in c.args.families.now) c.args.way.now _ _ c.index-nodes-at.result.value left c.loop-at.invariant.but;
       settled = settled-pushed c.args.size.after (cell_in c.args.families.now) _ _ _ c.index-nodes-at.result.value _ (trees_of (begun_or c.loop-at.all.items (take c.loop-at.at c.nodes-nodes.result.now))) _ left
-          (rw c.deref.ensures at c.in_ok-new.ensures.node) (rw taken c.in_ok-push_settled.ensures.nodes) c.loop-at.invariant.settled;
+          (rw c.deref-in-loop-at.ensures at c.in_ok-new.ensures.node) (rw taken c.in_ok-push_settled.ensures.nodes) c.loop-at.invariant.settled;
       bounds = λ later. c.loop-at.invariant.bounds (subst (λ (f : PlainForest SettledFields). AreFramesInBounds (settled_in c.args.size.after (cell_in c.args.families.now) (contents_of f))) (sym left) (tree.0, tree.1, later));
       least = omega (arith, changes, c.loop-at.invariant.least);
-      begun = rw (c.in_ok-push_settled.ensures.begun, c.loop-at.invariant.begun, c.in_ok-new.ensures.changed, c.deref.ensures) (fewer_left _ _ _ _ changes c.loop-at.invariant.least);
-      counted = nodes_more-more _ _ _ (changes_of c.args.size.after (cell_in c.args.families.now) c.index-nodes-at.result.value) _ _ (rw c.deref.ensures at c.in_ok-new.ensures.made) changes c.loop-at.invariant.counted;
-      tags = tags_pushed c.args.size.after (cell_in c.args.families.now) _ _ c.index-nodes-at.result.value _ _ _ left (rw c.deref.ensures at c.in_ok-new.ensures.tags) c.loop-at.invariant.tags;
+      begun = rw (c.in_ok-push_settled.ensures.begun, c.loop-at.invariant.begun, c.in_ok-new.ensures.changed, c.deref-in-loop-at.ensures) (fewer_left _ _ _ _ changes c.loop-at.invariant.least);
+      counted = nodes_more-more _ _ _ (changes_of c.args.size.after (cell_in c.args.families.now) c.index-nodes-at.result.value) _ _ (rw c.deref-in-loop-at.ensures at c.in_ok-new.ensures.made) changes c.loop-at.invariant.counted;
+      tags = tags_pushed c.args.size.after (cell_in c.args.families.now) _ _ c.index-nodes-at.result.value _ _ _ left (rw c.deref-in-loop-at.ensures at c.in_ok-new.ensures.tags) c.loop-at.invariant.tags;
     }
 
 pub settle_along_in-returns-then-is_empty-2-clause-forest : goal.settle_along_in-returns-then-is_empty-2-clause-forest

@@ -1,13 +1,10 @@
-use Rattle.std.proofs.Common.{rules, arith, ◌≡◌, ◌+◌, ◌<◌, ◌∙◌, ℕ, List, [], Bool, true, false, if◌then◌else◌, ap, refl, sym, subst, length, drop}
-use Rattle.shadow_frame.specs.declared.Rect.{Rect}
+use Rattle.std.proofs.Common.{◌≡◌, ◌∙◌, ℕ, List, [], Bool, true, false, if◌then◌else◌, ap, refl}
 use Rattle.shadow_frame.specs.declared.Size.{Size}
 use Rattle.native_state.specs.Families.{cell_in}
 use Rattle.native_state.specs.declared.StateCell.{StateCell}
-use Rattle.shadow_node.specs.Forest.{PlainForest, PlainNode, node, node_count}
+use Rattle.shadow_node.specs.Forest.{PlainNode}
 use Rattle.shadow_node.specs.Fields.{SettledFields, contents_of}
-use Rattle.shadow_node.specs.Falls.{forest_at}
-use Rattle.shadow_node.proofs.Trees.{forest_at-drop, forest_at-drop_end}
-use Rattle.tree_settle.specs.Along.{IsSettledBut, IsTreeSettledBut, leads_to, way_at, way_below}
+use Rattle.tree_settle.specs.Along.{IsSettledBut, leads_to, way_below}
 use Rattle.tree_settle.specs.Walk.{fields_in, settled_in, settled_tree}
 use Rattle.tree_settle.proofs.Unchanged.{settled-but_none}
 use Rattle.tree_settle.proofs.tests.+settled_but.Goals as goal

@@ -72,7 +72,7 @@ add_tree-returns-then-skips-clause-found t c =
     let tree = c.args.spot.now.tree in
     let test = skips c.args.skip.now c.args.spot.now.stamps in
     let new : Found = record { sites = c.add_site.new.sites; skipped = c.push.new.self } in
-    let is : test tree.fields ≡ true = sym c.skips.ensures ∙ c.if-skips.true in
+    let is : test tree.fields ≡ true = sym c.skips.ensures.skips ∙ c.if-skips.true in
     let low : 1 ≤ tree.fields.fields.tag = subst (λ tag. 1 ≤ tag) c.tag.ensures.tag c.tag.ensures.low in
     let skipped : c.push.new.self.items ≡ c.args.found.now.skipped.items ++ tree.fields.fields.tag ∷ [] =
     c.in_ok-push.ensures.items ∙ ap (λ tag. c.args.found.now.skipped.items ++ tag ∷ []) c.tag.ensures.tag in
@@ -83,7 +83,7 @@ add_tree-returns-then-skips-clause-found t c =
 pub add_tree-returns-then-skips-clause-entered : goal.add_tree-returns-then-skips-clause-entered
 add_tree-returns-then-skips-clause-entered t c =
     let test = skips c.args.skip.now c.args.spot.now.stamps in
-    on_ok_weaker c.add_site.result (λ sites. entered_not test c.args.spot.now.tree c.args.walk.now (sym c.skips.ensures ∙ c.if-skips.true)) c.add_site.ensures.sites
+    on_ok_weaker c.add_site.result (λ sites. c.skips.ensures.same ∙ entered_not test c.args.spot.now.tree c.args.walk.now (sym c.skips.ensures.skips ∙ c.if-skips.true)) c.add_site.ensures.sites
 
 pub add_tree-add_forest-requires : goal.add_tree-add_forest-requires
 add_tree-add_forest-requires t c =
@@ -101,7 +101,7 @@ add_tree-returns-clause-found t c =
     let tree = c.args.spot.now.tree in
     let test = skips c.args.skip.now c.args.spot.now.stamps in
     let between : Found = record { sites = c.add_site-2.new.sites; skipped = c.args.found.now.skipped } in
-    let isnt : test tree.fields ≡ false = sym c.skips.ensures ∙ c.if-skips.false in
+    let isnt : test tree.fields ≡ false = sym c.skips.ensures.skips ∙ c.if-skips.false in
     let low : 1 ≤ tree.fields.fields.tag = subst (λ tag. 1 ≤ tag) c.tag-tag.ensures.tag c.tag-tag.ensures.low in
     let below : c.host_below-host_below.result ≡ option_map (λ host. host_inside host tree.fields) (shown_host c.args.host tree.fields) =
     c.host_below-host_below.ensures ∙ ap (option_map (λ host. host_inside host tree.fields)) c.shown_host-host.ensures in
@@ -116,6 +116,6 @@ add_tree-returns-clause-entered t c =
     let tree = c.args.spot.now.tree in
     let test = skips c.args.skip.now c.args.spot.now.stamps in
     on_ok_weaker c.add_forest.result
-    (λ entered. entered_own test tree c.args.walk.now c.enter-below.new.self c.add_forest.new.walk (sym c.skips.ensures ∙ c.if-skips.false) c.enter-below.ensures.counted
+    (λ entered. entered_own test tree c.args.walk.now c.enter-below.new.self c.add_forest.new.walk (sym c.skips.ensures.skips ∙ c.if-skips.false) (c.enter-below.ensures.counted ∙ ap (λ walk. entered_more walk 1) c.skips.ensures.same)
     (subst (λ (spots : PlainSpots). c.add_forest.new.walk ≡ entered_more c.enter-below.new.self (count_outside (skips c.args.skip.now spots.stamps) spots.forest)) c.enter-below.ensures.children entered))
     c.add_forest.ensures.entered

@@ -1,6 +1,6 @@
-use Rattle.std.proofs.Common.{◌≡◌, ℕ, drop}
-use Rattle.view_mutation.specs.Lookups.{place_at, place_by}
+use Rattle.std.proofs.Common.{◌≡◌, ◌++◌, drop}
+use Rattle.view_mutation.proofs.Index.{indexed_from}
 use Rattle.view_mutation.proofs.tags.index_of.Given as goal
 
 abbrev pub invariant-loop-at : goal.invariant-loop-at
-invariant-loop-at l = record { seen : (tag : ℕ) → place_by l.index l.places tag ≡ place_at (drop l.at l.places) tag }
+invariant-loop-at l = record { left : l.pairs.items ++ indexed_from l.at (drop l.at l.places) ≡ indexed_from 0 l.places }

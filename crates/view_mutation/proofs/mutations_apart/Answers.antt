@@ -12,7 +12,7 @@ use Rattle.view_flatten.proofs.Below.{is_host_tree}
 use Rattle.view_flatten.proofs.Outside.{pruned_distinct, pruned_low}
 use Rattle.view_mutation.proofs.SameSkipped.{same_skipped}
 use Rattle.view_mutation.proofs.Since.{between_found, count_entered, on_ok, same_tags}
-use Rattle.view_mutation.proofs.mutations_since.Goals as goal
+use Rattle.view_mutation.proofs.mutations_apart.Goals as goal
 
 -- the sorted tags are those of the skipped nodes
 tags_are : (skipped sorted given wanted : List ℕ) → skipped ≡ wanted → IsPermutation skipped sorted → given ≡ sorted → has_one_of given ≡ has_one_of wanted
