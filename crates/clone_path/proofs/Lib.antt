@@ -4,3 +4,4 @@ pub mod Trees
 pub mod Ways
 pub mod Limits
 pub mod FourTags
+pub mod Along

@@ -1,6 +1,6 @@
 -- A changed forest keeps the limits.
 use Rattle.std.proofs.Common.{◌≡◌, ℕ, true, false, refl, sym, ◌∙◌, subst}
-use Rattle.std.specs.Prelude.{Bool, nat_eq, cond, ◌≤◌}
+use Rattle.std.specs.Prelude.{Bool, Err, IfOk, Ok, Result, nat_eq, cond, ◌≤◌}
 use Rattle.std.specs.List.{IsDistinct}
 use Rattle.shadow_node.specs.declared.NodeEdit.{NodeEdit}
 use Rattle.shadow_node.specs.Edit.{edited_settled}
@@ -9,6 +9,7 @@ use Rattle.shadow_node.specs.Fields.{SettledFields, contents_of}
 use Rattle.shadow_node.specs.Limits.{IsForestWithin}
 use Rattle.shadow_node.specs.Sound.{FitsLeaf}
 use Rattle.clone_path.specs.Changed.{forest_edited_at}
+use Rattle.std.specs.declared.alloc.AllocError.{AllocError}
 use Rattle.clone_path.proofs.Tags.{all_tags, all_tags-node}
 
 module _ (tag : ℕ) (change : NodeEdit) where
@@ -44,3 +45,8 @@ module _ (tag : ℕ) (change : NodeEdit) where
   fits_leaf true none h = tt
   fits_leaf true (node settled children siblings) h = absurd h
   fits_leaf false children h = tt
+
+-- what holds of a value holds of an answer that is it
+pub if_ok_is : {A : Type 0} (P : A → Type 0) (answer : Result A AllocError) (value : A) → IfOk answer (λ given. given ≡ value) → P value → IfOk answer P
+if_ok_is P (Ok given) value is holds = subst P (sym is) holds
+if_ok_is P (Err error) value is holds = tt

@@ -1,8 +1,9 @@
 //! A change of one node: the nodes on the way to it are made anew, and all others are shared.
 #![tactic(auto)]
 
-ghost use Rattle.std.specs.Prelude.{◌≡◌, ◌<◌, [], length, nat_eq, is_some, unwrap_or, slice_set, IfOk, IfSome, OnOk};
+ghost use Rattle.std.specs.Prelude.{◌≡◌, ◌<◌, [], length, nat_eq, Some, is_some, unwrap_or, slice_set, IfOk, IfSome, OnOk};
 ghost use Rattle.std.specs.List.{IsDistinct};
+ghost use Rattle.std.specs.Option.{option_copied, option_map};
 ghost use Rattle.native_state.specs.Made.{nodes_more, one_node_more};
 ghost use Rattle.shadow_kinds.specs.Traits.{is_leaf_of};
 ghost use Rattle.shadow_node.specs.Edit.{edited_settled};
@@ -19,7 +20,7 @@ ghost use Rattle.clone_path.specs.Changed.{forest_edited_at};
 mod tests;
 
 use prop_table::{Label, node_table};
-use shadow_node::{Forest, Made, NodeEdit, NodeRef, Parts, ShadowNode};
+use shadow_node::{Forest, Made, NodeEdit, NodeRef, Parts, ShadowNode, path_to};
 use std::alloc::{AllocError, Global};
 use std::sync::Arc;
 
@@ -84,6 +85,64 @@ fn forest_with(
     Forest::of(alloc, all)
 }
 
+/// The node of a tag, by the way to it. Of each list of children that the way goes through, the nodes
+/// before it are looked at once, and nothing below them.
+///
+/// The tags of the forest differ.
+pub fn find_along<'a>(forest: &'a Forest, way: &[u32], tag: u32) -> Option<&'a NodeRef>
+    requires tags { IsDistinct nat_eq (tags_of (contents_of forest.now)) }
+    requires way { way_to tag forest.now ≡ Some way.now }
+    ensures { option_map (λ node. node.value) (option_copied result) ≡ first_settled tag forest.now }
+{
+    let (first, below) = way.split_first()?;
+    for node in forest.nodes() {
+        if node.tag() == tag {
+            return Some(node);
+        }
+        if node.tag() == *first {
+            return find_along(node.children(), below, tag);
+        }
+    }
+    None
+}
+
+/// The forest with a change of the node of that tag, by the way to it.
+///
+/// The tags of the forest differ, and the change is in range. `made` rises by the length of the way.
+pub fn replace_along(
+    alloc: Global,
+    made: &mut Made,
+    forest: &Forest,
+    way: &[u32],
+    tag: u32,
+    change: &NodeEdit,
+) -> Result<Forest, AllocError>
+    requires tags { IsDistinct nat_eq (tags_of (contents_of forest.now)) }
+    requires way { way_to tag forest.now ≡ Some way.now }
+    requires change { IsEditInRange change.now }
+    ensures forest { IfOk result (λ changed. changed ≡ forest_edited_at tag change.now forest.now) }
+    ensures within { IfOk result (λ changed. IsForestWithin (contents_of forest.now) → IsForestWithin (contents_of changed)) }
+    ensures made { OnOk result (made.new ≡ nodes_more made.old (length way.now)) }
+{
+    let Some((first, below)) = way.split_first() else {
+        return forest.share();
+    };
+    let nodes = forest.nodes();
+    for (at, node) in nodes.iter().enumerate() {
+        if node.tag() == tag {
+            let new = edited_node(alloc, made, node, change)?;
+            return forest_with(alloc, nodes, at, new);
+        }
+        if node.tag() == *first {
+            let children = replace_along(alloc, made, node.children(), below, tag, change)?;
+            node.is_sound();
+            let new = node_above(alloc, made, node, children)?;
+            return forest_with(alloc, nodes, at, new);
+        }
+    }
+    forest.share()
+}
+
 /// The forest with a change of the node of that tag, where there is one.
 ///
 /// The tags of the forest differ, and the change is in range. `made` rises by the node's depth, and
@@ -102,21 +161,11 @@ pub fn replace_at(
     ensures within { IfOk result (λ found. IfSome found (λ changed. IsForestWithin (contents_of forest.now) → IsForestWithin (contents_of changed))) }
     ensures made { OnOk result (made.new ≡ nodes_more made.old (length (unwrap_or (way_to tag forest.now) []))) }
 {
-    let nodes = forest.nodes();
-    for (at, node) in nodes.iter().enumerate() {
-        if node.tag() == tag {
-            let new = edited_node(alloc, made, node, change)?;
-            return Ok(Some(forest_with(alloc, nodes, at, new)?));
+    match path_to(alloc, forest, tag)? {
+        Some(way) => {
+            let changed = replace_along(alloc, made, forest, &way, tag, change)?;
+            Ok(Some(changed))
         }
-        let below = node.children();
-        if below.nodes().is_empty() {
-            continue;
-        }
-        if let Some(children) = replace_at(alloc, made, below, tag, change)? {
-            node.is_sound();
-            let new = node_above(alloc, made, node, children)?;
-            return Ok(Some(forest_with(alloc, nodes, at, new)?));
-        }
+        None => Ok(None),
     }
-    Ok(None)
 }

@@ -10,31 +10,24 @@ ghost use Rattle.page_map.specs.Rising.{IsRising};
 use crate::PageMap;
 use crate::page::{PageRef, parted, place_of};
 
-/// Where a search begins: the place behind the entry that was found last.
-///
-/// It changes no answer, only how long a lookup takes.
+/// A page, and an entry in it.
 #[derive(Clone, Copy)]
-pub struct Near {
+struct Place {
     page: usize,
     at: usize,
 }
 
-impl Near {
-    /// The first entry.
-    pub fn start() -> Near {
-        Near { page: 0, at: 0 }
-    }
-
+impl Place {
     /// The place behind this one, in a page of that many entries.
-    fn behind(self, entries: usize) -> Near {
+    fn behind(self, entries: usize) -> Place {
         let at = self.at.saturating_add(1);
         if at < entries {
-            Near {
+            Place {
                 page: self.page,
                 at,
             }
         } else {
-            Near {
+            Place {
                 page: self.page.saturating_add(1),
                 at: 0,
             }
@@ -42,33 +35,63 @@ impl Near {
     }
 }
 
-/// Where to look for a tag in a page: at the place, where the entry there has the tag; else where
-/// the tag belongs, or behind the last entry where it belongs in another page.
-fn place_near<V>(entries: &[(u32, V)], at: usize, tag: u32) -> usize {
-    match (entries.get(at), entries.first(), entries.last()) {
-        (Some(entry), _, _) if entry.0 == tag => at,
-        (_, Some(first), Some(last)) if first.0 <= tag && tag <= last.0 => {
-            entries.partition_point(|entry| entry.0 < tag)
+/// A search begins at so many places.
+const PLACES: usize = 4;
+
+/// Where a search begins: the places behind the entries that were found last, so that a walk over
+/// nodes whose tags go in a few rows finds each at once.
+///
+/// It changes no answer, only how long a lookup takes.
+#[derive(Clone, Copy)]
+pub struct Near {
+    places: [Place; PLACES],
+    /// Which of the places is behind the entry that was found last.
+    last: usize,
+}
+
+impl Near {
+    /// The first entry.
+    pub fn start() -> Near {
+        Near {
+            places: [Place { page: 0, at: 0 }; PLACES],
+            last: 0,
         }
-        _ => entries.len(),
+    }
+
+    /// Puts a place in the stead of the one after the last.
+    fn add(&mut self, place: Place) {
+        self.last = self.last.wrapping_add(1) % PLACES;
+        self.places[self.last] = place;
     }
 }
 
-/// The value of a tag, where it stands in the page of the place.
+/// The entry of a tag at a place, with the number of entries in its page.
+fn entry_at<V>(pages: &[PageRef<V>], place: Place, tag: u32) -> Option<(&V, usize)>
+    requires { IsRising (joined pages.now) }
+    ensures { IfSome result (λ found. Some found.0.now ≡ find nat_cmp tag (joined pages.now)) }
+{
+    let entries = pages.get(place.page)?.entries();
+    match entries.get(place.at) {
+        Some(entry) if entry.0 == tag => Some((&entry.1, entries.len())),
+        _ => None,
+    }
+}
+
+/// The value of a tag, where it stands at one of the places.
 fn value_at<'a, V>(pages: &'a [PageRef<V>], near: &mut Near, tag: u32) -> Option<&'a V>
     requires { IsRising (joined pages.now) }
     ensures { IfSome result (λ value. Some value.now ≡ find nat_cmp tag (joined pages.now)) }
 {
-    let entries = pages.get(near.page)?.entries();
-    let page = near.page;
-    let at = place_near(entries, near.at, tag);
-    match entries.get(at) {
-        Some(entry) if entry.0 == tag => {
-            *near = Near { page, at }.behind(entries.len());
-            Some(&entry.1)
+    for step in 0..PLACES {
+        let slot = near.last.wrapping_add(step) % PLACES;
+        let place = near.places[slot];
+        if let Some((value, entries)) = entry_at(pages, place, tag) {
+            near.places[slot] = place.behind(entries);
+            near.last = slot;
+            return Some(value);
         }
-        _ => None,
     }
+    None
 }
 
 /// The value of a tag, looked for among all pages.
@@ -83,7 +106,7 @@ fn value_sought<'a, V>(pages: &'a [PageRef<V>], near: &mut Near, tag: u32) -> Op
     match rest.split_first() {
         Some((first, _)) if first.0 == tag => {
             let page = before.len();
-            *near = Near { page, at }.behind(here.len());
+            near.add(Place { page, at }.behind(here.len()));
             Some(&first.1)
         }
         _ => None,
@@ -91,10 +114,10 @@ fn value_sought<'a, V>(pages: &'a [PageRef<V>], near: &mut Near, tag: u32) -> Op
 }
 
 impl<V> PageMap<V> {
-    /// The value of a tag, where there is one, looked for first at a place. It takes no memory.
+    /// The value of a tag, where there is one, looked for first at a few places. It takes no memory.
     ///
-    /// Where the entry there has the tag, it takes constant time; else time in log n, as `get`, and
-    /// less where the tag stands in the page of the place.
+    /// Where the entry at one of them has the tag, it takes constant time; else time in log n, as
+    /// `get`.
     pub fn get_near(&self, near: &mut Near, tag: u32) -> Option<&V>
         ensures { option_copied result ≡ get self.now tag }
     {

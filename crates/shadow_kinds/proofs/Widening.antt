@@ -1,11 +1,12 @@
 -- Widened version 1 props form what they formed in version 1.
-use Rattle.std.proofs.Common.{◌≡◌, ℕ, ◌<◌, length, false, refl, arith}
+use Rattle.std.proofs.Common.{◌≡◌, ℕ, ◌<◌, length, true, false, refl, arith}
+use Rattle.std.specs.Prelude.{Bool, ◌||◌, pos}
 use Rattle.std.proofs.Math.Bool.{or-false}
 use Rattle.prop_table.specs.Props.{PropList, value_at}
 use Rattle.prop_table.specs.declared.rows.TheConstants.{BACKGROUND, OPACITY, Z, CLIP, COLLAPSABLE, POINTER, BORDER, TEST_MARK, NATIVE_MARK}
 use Rattle.prop_table.specs.Widened.{widened}
 use Rattle.prop_table.proofs.Widening.{widened-kept, widened-added}
-use Rattle.shadow_kinds.specs.Traits.{forms_context_of, forms_view_of, is_hidden_of}
+use Rattle.shadow_kinds.specs.Traits.{forms_context_of, forms_view_of, is_at_least, is_hidden_of, is_number}
 use Rattle.shadow_kinds.specs.VersionOne.{v1_forms_context_of, v1_forms_view_of}
 use Rattle.shadow_kinds.specs.declared.Kind.{Kind}
 use Rattle.shadow_kinds.specs.declared.Kind.TheVariants.{View, Text, Image, Scroll, Input}
@@ -33,6 +34,10 @@ forms_context_of-widened Image props n = refl
 forms_context_of-widened Scroll props n = refl
 forms_context_of-widened Input props n = refl
 
+or_four : (a b c d : Bool) → (a || (b || c || d)) ≡ (a || b || c || d)
+or_four true b c d = refl
+or_four false b c d = refl
+
 -- a node has a host view in version 2 exactly where it had one in version 1
 pub forms_view_of-widened : (kind : Kind) (props : PropList) → length props ≡ 16 → forms_view_of kind (widened props) ≡ v1_forms_view_of kind props
 forms_view_of-widened kind props n =
@@ -44,7 +49,7 @@ forms_view_of-widened kind props n =
       widened-added props 3 n,
       widened-added props 4 n,
     )
-    (simp or-false)
+    (simp or-false (or_four (v1_forms_context_of kind props) (is_at_least (pos 16777216) (value_at props BACKGROUND)) (is_at_least (pos 1) (value_at props BORDER)) (is_number (pos 1) (value_at props TEST_MARK))))
 
 -- no node of version 1 is hidden
 pub is_hidden_of-widened : (props : PropList) → length props ≡ 16 → is_hidden_of (widened props) ≡ false

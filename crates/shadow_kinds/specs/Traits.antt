@@ -48,11 +48,15 @@ forms_context_of Image props = true
 forms_context_of Scroll props = true
 forms_context_of Input props = true
 
+-- a node that shows something of its own
+abbrev pub shows_itself_of : PropList → Bool
+shows_itself_of props =
+    is_at_least (pos 16777216) (value_at props BACKGROUND) || is_at_least (pos 1) (value_at props BORDER) || is_number (pos 1) (value_at props TEST_MARK)
+    || is_at_least (pos 16777216) (value_at props SHADOW) || is_at_least (pos 1) (value_at props OUTLINE)
+
 -- a node that has a host view: it forms a context, or shows something of its own
 abbrev pub forms_view_of : Kind → PropList → Bool
-forms_view_of kind props =
-    forms_context_of kind props || is_at_least (pos 16777216) (value_at props BACKGROUND) || is_at_least (pos 1) (value_at props BORDER)
-    || is_number (pos 1) (value_at props TEST_MARK) || is_at_least (pos 16777216) (value_at props SHADOW) || is_at_least (pos 1) (value_at props OUTLINE)
+forms_view_of kind props = forms_context_of kind props || shows_itself_of props
 
 -- a node that hides itself and what lies below it
 abbrev pub is_hidden_of : PropList → Bool

@@ -7,7 +7,8 @@ mod traits;
 mod words;
 
 pub use traits::{
-    axes_of, forms_context, forms_view, has_state, have_same_rows, is_hidden, is_leaf, z_of,
+    axes_of, forms_context, forms_view, has_state, have_same_rows, is_hidden, is_leaf,
+    shows_itself, z_of,
 };
 pub use words::{code, from_code, from_word, word};
 

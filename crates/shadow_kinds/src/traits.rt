@@ -4,7 +4,7 @@ ghost use Rattle.std.specs.Prelude.{◌≡◌, IsTrue};
 ghost use Rattle.prop_table.specs.Table.{AreNodeProps};
 ghost use Rattle.shadow_frame.specs.Range.{IsAxisInRange};
 ghost use Rattle.shadow_kinds.specs.Axes.{x_axis_of, y_axis_of, z_order_of};
-ghost use Rattle.shadow_kinds.specs.Traits.{is_number, is_at_least, is_below, is_leaf_of, has_state_of, forms_context_of, forms_view_of, is_hidden_of};
+ghost use Rattle.shadow_kinds.specs.Traits.{is_number, is_at_least, is_below, is_leaf_of, has_state_of, forms_context_of, forms_view_of, is_hidden_of, shows_itself_of};
 ghost use Rattle.shadow_kinds.specs.SameProps.{is_same_props};
 
 use crate::Kind;
@@ -81,16 +81,23 @@ pub fn forms_context(kind: Kind, props: &NodeProps) -> bool
     }
 }
 
-/// Whether a node has a host view: it forms a context, or shows something of its own.
-pub fn forms_view(kind: Kind, props: &NodeProps) -> bool
-    ensures { result ≡ forms_view_of kind props.now }
+/// Whether a node shows something of its own: a background or a shadow that is not clear, a border,
+/// an outline, or a test mark.
+pub fn shows_itself(props: &NodeProps) -> bool
+    ensures { result ≡ shows_itself_of props.now }
 {
-    forms_context(kind, props)
-        || is_at_least(props.get(rows::BACKGROUND), 16_777_216)
+    is_at_least(props.get(rows::BACKGROUND), 16_777_216)
         || is_at_least(props.get(rows::BORDER), 1)
         || is_number(props.get(rows::TEST_MARK), 1)
         || is_at_least(props.get(rows::SHADOW), 16_777_216)
         || is_at_least(props.get(rows::OUTLINE), 1)
+}
+
+/// Whether a node has a host view: it forms a context, or shows something of its own.
+pub fn forms_view(kind: Kind, props: &NodeProps) -> bool
+    ensures { result ≡ forms_view_of kind props.now }
+{
+    forms_context(kind, props) || shows_itself(props)
 }
 
 /// Whether a node hides itself and what lies below it.

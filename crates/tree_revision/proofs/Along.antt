@@ -13,6 +13,7 @@ use Rattle.shadow_node.specs.Find.{first_settled, way_from, way_to}
 use Rattle.shadow_node.specs.Frames.{frame_in, state_when}
 use Rattle.clone_path.proofs.Tags.{all_tags, all_tags-node, each_in_first, each_in_second, none_found, none_of_two, found_here, found_past, found_apart}
 use Rattle.clone_path.proofs.OneNode.{differ_below}
+use Rattle.clone_path.proofs.Ways.{way_found}
 use Rattle.tree_settle.specs.Along.{IsSettledBut, leads_to, way_below}
 use Rattle.tree_settle.specs.Walk.{fields_in, settled_in}
 use Rattle.tree_revision.proofs.Unsettled.{IsSettled}
@@ -29,26 +30,11 @@ settled_but parent newest way (node f k s) is =
       settled_but parent newest way s rest,
     )
 
--- a way is there where a node of the tag is
-pub way_found : (tag : ℕ) (forest : PlainForest SettledFields) → is_some (way_to tag forest) ≡ is_some (first_settled tag forest)
-way_found tag none = refl
-way_found tag (node f k s) =
-    elim (nat_eq f.fields.tag tag) as (λ b. is_some (cond b (Some (f.fields.tag ∷ [])) (option_or (way_from f.fields.tag (way_to tag k)) (way_to tag s)))
-    ≡ is_some (cond b (Some (record { fields = f; children = k })) (option_or (first_settled tag k) (first_settled tag s)))) [
-      | true ↦ refl
-      | false ↦ of_two (way_from f.fields.tag (way_to tag k)) (way_to tag s) (first_settled tag k) (first_settled tag s)
-          (longer f.fields.tag (way_to tag k) ∙ way_found tag k) (way_found tag s)
-    ]
-  where
-    longer : (tag : ℕ) (way : Option (List ℕ)) → is_some (way_from tag way) ≡ is_some way
-    longer tag None = refl
-    longer tag (Some way) = refl
-
-    of_two : {A B : Type 0} (a b : Option A) (c d : Option B) → is_some a ≡ is_some c → is_some b ≡ is_some d → is_some (option_or a b) ≡ is_some (option_or c d)
-    of_two None b None d e f = f
-    of_two None b (Some y) d e f = absurd (false≢true e)
-    of_two (Some x) b None d e f = absurd (false≢true (sym e))
-    of_two (Some x) b (Some y) d e f = refl
+-- a way is found where a node of the tag is
+pub path_found : {V : Type 0} (items : V → List ℕ) (found : Option V) (tag : ℕ) (forest : PlainForest SettledFields) → option_map items found ≡ way_to tag forest
+    → is_some found ≡ is_some (first_settled tag forest)
+path_found items None tag forest is = ap is_some is ∙ way_found tag forest
+path_found items (Some way) tag forest is = ap is_some is ∙ way_found tag forest
 
 -- the way that is found, or else another one, is the way to a tag that is there
 pub way_taken : {V : Type 0} (items : V → List ℕ) (found : Option V) (otherwise : V) (tag : ℕ) (forest : PlainForest SettledFields) → option_map items found ≡ way_to tag forest

@@ -36,11 +36,6 @@ pub stamps_stay : (old new : PlainForest SettledFields) (stamps : StampMap) (num
 stamps_stay old new stamps number mounted same =
     subst (λ new. AreStampsAfter old new stamps number stamps) (sym same) (record { mounted = mounted; each = λ tag stamp found. inl (refl, found) })
 
--- what holds of a value holds of an answer that is it
-pub if_ok_is : {A : Type 0} (P : A → Type 0) (answer : Result A AllocError) (value : A) → IfOk answer (λ given. given ≡ value) → P value → IfOk answer P
-if_ok_is P (Ok given) value is holds = subst P (sym is) holds
-if_ok_is P (Err error) value is holds = tt
-
 -- a change of a node keeps the tags
 all_tags-edited : (tag : ℕ) (change : NodeEdit) (forest : PlainForest SettledFields) → all_tags (forest_edited_at tag change forest) ≡ all_tags forest
 all_tags-edited tag change forest = ap tags_of (contents_of-forest_edited_at tag change forest) ∙ tags_edited tag change (contents_of forest)

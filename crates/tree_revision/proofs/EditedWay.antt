@@ -15,7 +15,8 @@ use Rattle.shadow_node.specs.Frames.{frame_in}
 use Rattle.clone_path.specs.Changed.{forest_edited_at}
 use Rattle.clone_path.proofs.Tags.{all_tags, all_tags-node, each_in_second, none_found, found_past}
 use Rattle.clone_path.proofs.OneNode.{changed_here, changed_below, changed_past, differ_below}
-use Rattle.clone_path.proofs.Ways.{way_found, way_past}
+use Rattle.clone_path.proofs.Along.{Leads, here, below, past, leads}
+use Rattle.clone_path.proofs.Ways.{way_found}
 use Rattle.tree_settle.specs.Along.{IsSettledBut, leads_to, way_below}
 use Rattle.tree_settle.specs.Limits.{AreFramesInBounds}
 use Rattle.tree_settle.specs.Walk.{fields_in, settled_in}
@@ -41,31 +42,6 @@ other_after tag f k s differ found = λ same.
 -- the first node is found by its tag
 first_here : (tag : ℕ) (f : SettledFields) (k s : PlainForest SettledFields) → f.fields.tag ≡ tag → first_settled tag (node f k s) ≡ Some (record { fields = f; children = k })
 first_here tag f k s same = rw (eq-eqb f.fields.tag tag same) refl
-
--- where the way to a tag leads: to the first node, below it, or past its tree
-data Leads (tag : ℕ) (f : SettledFields) (k s : PlainForest SettledFields) (way : List ℕ) : Type 0 where
-  here : f.fields.tag ≡ tag → way ≡ f.fields.tag ∷ [] → Leads tag f k s way
-  below : f.fields.tag ≢ tag → (rest : List ℕ) → way_to tag k ≡ Some rest → way ≡ f.fields.tag ∷ rest → Leads tag f k s way
-  past : f.fields.tag ≢ tag → is_some (first_settled tag k) ≡ false → way_to tag s ≡ Some way → Leads tag f k s way
-
--- a way leads to one of the three
-leads : (tag : ℕ) (f : SettledFields) (k s : PlainForest SettledFields) (way : List ℕ) → way_to tag (node f k s) ≡ Some way → Leads tag f k s way
-leads tag f k s way e =
-    elim (cases_eq f.fields.tag tag) as (λ c. Leads tag f k s way) [
-      | inl same ↦
-          let top : way_to tag (node f k s) ≡ Some (f.fields.tag ∷ []) = rw (eq-eqb f.fields.tag tag same) refl in
-          let both : Some way ≡ Some (f.fields.tag ∷ []) = sym e ∙ top in
-          here same cc
-      | inr other ↦ elim (way_to tag k) as (λ o. way_to tag k ≡ o → Leads tag f k s way) [
-        | None ↦ λ absent.
-            let gone : is_some (first_settled tag k) ≡ false = sym (way_found tag k) ∙ ap is_some absent in
-            past other gone (sym (way_past tag f k s other gone) ∙ e)
-        | Some rest ↦ λ there.
-            let inside : way_to tag (node f k s) ≡ Some (f.fields.tag ∷ rest) = rw (ne_eqb f.fields.tag tag other, there) refl in
-            let both : Some way ≡ Some (f.fields.tag ∷ rest) = sym e ∙ inside in
-            below other rest there cc
-      ] refl
-    ]
 
 -- what is looked for where another one is found
 abbrev pub first_within : ℕ → Option (PlainNode SettledFields) → Option (PlainNode SettledFields)

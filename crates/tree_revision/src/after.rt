@@ -1,10 +1,11 @@
 //! The content of the next revision, for each kind of change.
 
-ghost use Rattle.std.specs.Prelude.{◌≡◌, ◌+◌, ◌-◌, ◌<◌, ◌^◌, nat_eq, IfOk, IfErr, OnOk, None};
+ghost use Rattle.std.specs.Prelude.{◌≡◌, ◌+◌, ◌-◌, ◌<◌, ◌^◌, nat_eq, IfOk, IfErr, OnOk, None, Some};
 ghost use Rattle.std.specs.List.{IsDistinct};
 ghost use Rattle.native_state.specs.Families.{cell_in};
 ghost use Rattle.native_state.specs.Made.{MadeCounts, nodes_more};
 ghost use Rattle.shadow_node.specs.Fields.{contents_of, tags_of};
+ghost use Rattle.shadow_node.specs.Find.{way_to};
 ghost use Rattle.shadow_node.specs.InRange.{IsEditInRange};
 ghost use Rattle.shadow_node.specs.Limits.{IsForestWithin};
 ghost use Rattle.tree_build.specs.Script.{script_forest};
@@ -25,7 +26,7 @@ use crate::next::PrepareRefusal;
 use crate::record::{Cancel, Op};
 use crate::revision::Content;
 use crate::stamping::{has_same_fields, stamps_after};
-use clone_path::replace_at;
+use clone_path::{find_along, replace_along};
 use native_state::{FamilyTable, StateChange};
 use shadow_frame::Size;
 use shadow_kinds::{has_state, is_hidden};
@@ -160,17 +161,24 @@ fn stamps_after_edit(
     alloc: Global,
     front: &Content,
     tag: u32,
+    way: &[u32],
     edited: &Forest,
     forest: &Forest,
     tags: &[u32],
 ) -> Result<Stamps, AllocError>
     requires number { front.now.number < 2 ^ 64 - 1 }
+    requires old_way { way_to tag front.now.forest ≡ Some way.now }
+    requires new_way { way_to tag edited.now ≡ Some way.now }
+    requires edited { IsDistinct nat_eq (tags_of (contents_of edited.now)) }
     requires new { IsDistinct nat_eq (tags_of (contents_of forest.now)) }
     requires change { IsChangeAt tag front.now.forest edited.now forest.now front.now.stamps (front.now.number + 1) tags.now }
     ensures { IfOk result (AreStampsAfter front.now.forest forest.now front.now.stamps (front.now.number + 1)) }
 {
     let number = front.number + 1;
-    if let (Some(was), Some(now)) = (find(&front.forest, tag), find(edited, tag)) {
+    if let (Some(was), Some(now)) = (
+        find_along(&front.forest, way, tag),
+        find_along(edited, way, tag),
+    ) {
         if has_same_fields(was, now) {
             return front.stamps.share();
         }
@@ -197,10 +205,10 @@ fn with_props(
     ensures cancelled { IfErr result (IsFor (cause_in (props_op tag change.now) front.now front.now)) }
     ensures made { IfOk result (λ next. IsMadeFor (props_op tag change.now) front.now front.now next made.old made.new) }
 {
-    let Some(edited) = replace_at(alloc, made, &front.forest, tag, change)? else {
+    let Some(way) = path_to(alloc, &front.forest, tag)? else {
         return Err(PrepareRefusal::Cancel(Cancel::NotMounted { tag }));
     };
-    let way = path_to(alloc, &front.forest, tag)?.unwrap_or(Vec::new(alloc));
+    let edited = replace_along(alloc, made, &front.forest, &way, tag, change)?;
     let mut tags = Vec::from_slice(alloc, &way)?;
     let size = SizeChange {
         before: front.size,
@@ -208,7 +216,7 @@ fn with_props(
     };
     let families = front.families.share()?;
     let forest = settle_along(alloc, made, &mut tags, &edited, size, &families, &way)?;
-    let stamps = stamps_after_edit(alloc, front, tag, &edited, &forest, &tags)?;
+    let stamps = stamps_after_edit(alloc, front, tag, &way, &edited, &forest, &tags)?;
     Ok(Content {
         number: front.number + 1,
         size: front.size,

@@ -17,7 +17,7 @@ ghost use Rattle.view_flatten.specs.Walks.{entered_more};
 use crate::skips::Skip;
 use crate::walks::{Spot, Spots, Walk};
 use shadow_frame::{Point, Rect};
-use shadow_kinds::{forms_context, forms_view, is_hidden, z_of};
+use shadow_kinds::{forms_context, is_hidden, shows_itself, z_of};
 use std::alloc::AllocError;
 
 /// A view's host parent and its z there, before the views are in order.
@@ -165,7 +165,7 @@ fn add_site<'a>(
     ensures marked { OnOk result ((test : SettledFields → Bool) → is_skipped ≡ test spot.now.tree.fields → AreSitesMarked test sites.old.items → AreSitesMarked test sites.new.items) }
 {
     if let Some(host) = host {
-        if is_host || forms_view(spot.kind(), spot.props()) {
+        if is_host || shows_itself(spot.props()) {
             sites.push(site_of(spot, host, is_host, is_skipped))?;
         }
     }

@@ -18,7 +18,7 @@ pub mod SameSkipped
 pub mod FiveTagged
 pub mod InStep
 pub mod InStepPlaces
-pub mod Stepped
-pub mod SteppedTrees
+pub mod Compared
+pub mod ComparedTrees
 pub mod Paired
-pub mod SteppedMutations
+pub mod ComparedMutations

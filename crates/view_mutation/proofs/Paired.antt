@@ -14,7 +14,7 @@ use Rattle.view_flatten.proofs.Lines.{tags_below}
 use Rattle.view_flatten.proofs.Order.{tag_at}
 use Rattle.view_flatten.proofs.Outside.{of_tags}
 use Rattle.view_mutation.specs.Since.{AreTagged}
-use Rattle.view_mutation.specs.Steps.{ArePaired}
+use Rattle.view_mutation.specs.Together.{ArePaired}
 use Rattle.view_mutation.proofs.Skipped.{HasTree, each_tree, found_in_old, same_from_both, settled_in_preorder}
 
 -- a node without its ancestors

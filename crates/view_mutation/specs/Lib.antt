@@ -7,4 +7,4 @@ pub mod Shorthands
 pub mod Since
 pub mod SameSkipped
 pub mod InStep
-pub mod Steps
+pub mod Together

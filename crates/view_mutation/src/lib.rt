@@ -19,10 +19,10 @@ mod children;
 mod in_step;
 pub mod laws;
 mod pairs;
-mod steps;
 mod tags;
 #[cfg(test)]
 mod tests;
+mod together;
 
 use children::{add_inserts, add_removes, children_of};
 use host_views::Mutation;
@@ -30,8 +30,8 @@ use in_step::{are_in_step, updates_of};
 use shadow_node::{Forest, Stamps};
 use sqlite_items::Items;
 use std::alloc::{AllocError, Global};
-use steps::step;
 use tags::{add_creates, add_deletes, add_updates, index_of};
+use together::updates_together;
 use view_flatten::{Placed, Places, Skip, places};
 pub use view_flatten::{Spot, Spots, Walk};
 
@@ -135,7 +135,7 @@ pub fn mutations_since(
     ensures old_entered { OnOk result (old.new ≡ record old.old { entered = raised old.old.entered (count_outside (is_kept_since (stamp_in new.old.stamps) base new.old.forest) old.old.forest) }) }
     ensures new_entered { OnOk result (new.new ≡ record new.old { entered = raised new.old.entered (count_outside (is_unchanged_since (stamp_in new.old.stamps) base) new.old.forest) }) }
 {
-    match step(alloc, base, old, new)? {
+    match updates_together(alloc, base, old, new)? {
         Some(list) => Ok(list),
         None => mutations_apart(alloc, base, old, new),
     }

@@ -3,10 +3,11 @@ use Rattle.std.proofs.lemmas.Bool.{false≢true}
 use Rattle.shadow_kinds.specs.Traits.{is_hidden_of}
 use Rattle.shadow_node.specs.Find.{first_settled}
 use Rattle.shadow_node.specs.Stamps.{all_stamped}
+use Rattle.clone_path.proofs.Limits.{if_ok_is}
 use Rattle.tree_revision.specs.ForestStamps.{HasTagsOf, AreStampsAfter}
 use Rattle.tree_revision.specs.Unchanged.{is_same_fields}
 use Rattle.tree_revision.proofs.Alike.{same_fields}
-use Rattle.tree_revision.proofs.EditedStamps.{if_ok_is, stamps_stay}
+use Rattle.tree_revision.proofs.EditedStamps.{stamps_stay}
 use Rattle.tree_revision.proofs.Kept.{same_flags}
 use Rattle.tree_revision.proofs.after.stamps_after_edit.Goals as goal
 

@@ -14,7 +14,7 @@ use Rattle.view_flatten.specs.declared.sites.Host.{Host}
 use Rattle.view_flatten.specs.Sites.{AreLevel, PlainSite, begin_in, host_inside, is_context, shown_host, shown_site, site_in, when}
 use Rattle.view_flatten.proofs.Distinct.{each_in_both}
 use Rattle.view_mutation.specs.Lookups.{IsListed}
-use Rattle.view_mutation.specs.Steps.{AreOneParent, HaveStepped, StandAlike, site_updates, stands_at}
+use Rattle.view_mutation.specs.Together.{AreOneParent, AreCompared, StandAlike, site_updates, stands_at}
 
 -- mutations that were added one list after the other
 listed_both : (a b c : List Mutation) (first second : List PlainMutation) → IsListed a first b → IsListed b second c → IsListed a (first ++ second) c
@@ -37,13 +37,13 @@ updates_both (was ∷ olds) (is ∷ news) more_olds more_news e =
     ]
 
 -- no sites are in step
-pub stepped_none : (list : List Mutation) → HaveStepped [] [] list list
-stepped_none list = record { stands = refl; old_level = tt; new_level = tt; updates = record { listed = sym (append-nil (map plain_mutation list)) } }
+pub compared_none : (list : List Mutation) → AreCompared [] [] list list
+compared_none list = record { stands = refl; old_level = tt; new_level = tt; updates = record { listed = sym (append-nil (map plain_mutation list)) } }
 
 -- sites in step, and then others
-pub stepped_both : (olds news more_olds more_news : List PlainSite) (a b c : List Mutation) → HaveStepped olds news a b → HaveStepped more_olds more_news b c
-    → HaveStepped (olds ++ more_olds) (news ++ more_news) a c
-stepped_both olds news more_olds more_news a b c h k = record {
+pub compared_both : (olds news more_olds more_news : List PlainSite) (a b c : List Mutation) → AreCompared olds news a b → AreCompared more_olds more_news b c
+    → AreCompared (olds ++ more_olds) (news ++ more_news) a c
+compared_both olds news more_olds more_news a b c h k = record {
   stands =
       map-append (λ site. (site.parent, site.tag)) olds more_olds ∙ (λ i. h.stands i ++ k.stands i)
       ∙ sym (map-append (λ site. (site.parent, site.tag)) news more_news);
@@ -66,11 +66,11 @@ own_level (Some host) settled e =
     elim (forms_view_of settled.fields.kind settled.fields.props) as (λ b. AreLevel (when b (site_in host settled))) [ true ↦ (e, tt) | false ↦ tt ]
 
 -- a node that stands where it stood is in step with itself
-pub stepped_still : (was_in is_in : Option Host) (was is : SettledFields) (list : List Mutation) → was_in ≡ is_in → was ≡ is → z_order_of is.fields.props ≡ pos 0
-    → HaveStepped (shown_site was_in was) (shown_site is_in is) list list
-stepped_still was_in is_in was is list same_host same level =
+pub compared_still : (was_in is_in : Option Host) (was is : SettledFields) (list : List Mutation) → was_in ≡ is_in → was ≡ is → z_order_of is.fields.props ≡ pos 0
+    → AreCompared (shown_site was_in was) (shown_site is_in is) list list
+compared_still was_in is_in was is list same_host same level =
     let site = shown_site is_in is in
-    subst (λ old. HaveStepped old site list list) (sym (λ i. shown_site (same_host i) (same i)))
+    subst (λ old. AreCompared old site list list) (sym (λ i. shown_site (same_host i) (same i)))
     (record {
       stands = refl;
       old_level = own_level is_in is level;
@@ -96,10 +96,10 @@ module _ (was is : SettledFields) (alike : StandAlike was is) where
       ]
 
   -- and are in step where their update was added
-  pub stepped_own : (was_in is_in : Option Host) (before after : List Mutation) → AreOneParent was_in is_in
+  pub compared_own : (was_in is_in : Option Host) (before after : List Mutation) → AreOneParent was_in is_in
       → IsListed before (site_updates (shown_site was_in was) (shown_site is_in is)) after
-      → HaveStepped (shown_site was_in was) (shown_site is_in is) before after
-  stepped_own was_in is_in before after parent updates = record {
+      → AreCompared (shown_site was_in was) (shown_site is_in is) before after
+  compared_own was_in is_in before after parent updates = record {
     stands = own_stands was_in is_in parent;
     old_level = own_level was_in was alike.old_level;
     new_level = own_level is_in is alike.new_level;

@@ -26,7 +26,7 @@ site_updates (was ∷ old) (is ∷ new) =
 site_updates _ _ = []
 
 -- two lists of sites are in step, each at z 0, and their updates were added to a list
-pub record HaveStepped (old new : List PlainSite) (before after : List Mutation) : Type 0 where
+pub record AreCompared (old new : List PlainSite) (before after : List Mutation) : Type 0 where
   pub stands : stands_at old ≡ stands_at new
   pub old_level : AreLevel old
   pub new_level : AreLevel new

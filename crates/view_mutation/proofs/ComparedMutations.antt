@@ -16,7 +16,7 @@ use Rattle.view_flatten.proofs.Outside.{pruned_distinct, pruned_low}
 use Rattle.view_mutation.specs.InStep.{AreInStep, stands_of, updates_in_step}
 use Rattle.view_mutation.specs.Mutations.{mutations_between}
 use Rattle.view_mutation.specs.Since.{AreTagged}
-use Rattle.view_mutation.specs.Steps.{HaveStepped, site_updates, stands_at}
+use Rattle.view_mutation.specs.Together.{AreCompared, site_updates, stands_at}
 use Rattle.view_mutation.proofs.InStep.{in_step_mutations}
 use Rattle.view_mutation.proofs.Skipped.{skipping_keeps, skipping_prunes}
 
@@ -39,7 +39,7 @@ updates_of_sites (was ∷ old) (is ∷ new) =
 
 -- the mutations between the host trees of forests whose sites are in step
 mutations_of_sites : (old new : PlainForest SettledFields) → IsDistinct nat_eq (tags_of (contents_of old)) → IsDistinct nat_eq (tags_of (contents_of new)) → AreTagged old → AreTagged new
-    → (before after : List Mutation) → HaveStepped (sites_from root old) (sites_from root new) before after
+    → (before after : List Mutation) → AreCompared (sites_from root old) (sites_from root new) before after
     → map plain_mutation after ≡ map plain_mutation before ++ mutations_between (host_tree_of old) (host_tree_of new)
 mutations_of_sites old new distinct_old distinct_new low_old low_new before after h =
     let old_tree = level_tree old distinct_old low_old h.old_level in
@@ -52,11 +52,11 @@ mutations_of_sites old new distinct_old distinct_new low_old low_new before afte
     ∙ sym (in_step_mutations (host_tree_of old) (host_tree_of new) step (is_host_tree new distinct_new low_new).tags))
 
 -- the same where what lies below the contexts that are unchanged since a base was left out
-pub stepped_since : (stamps : ℕ → ℕ) (base : ℕ) (old new : PlainForest SettledFields) → IsDistinct nat_eq (tags_of (contents_of old)) → IsDistinct nat_eq (tags_of (contents_of new))
+pub compared_since : (stamps : ℕ → ℕ) (base : ℕ) (old new : PlainForest SettledFields) → IsDistinct nat_eq (tags_of (contents_of old)) → IsDistinct nat_eq (tags_of (contents_of new))
     → AreTagged old → AreTagged new → AreAlikeSince stamps base old new → (before after : List Mutation)
-    → HaveStepped (sites_from root (pruned (is_kept_since stamps base new) old)) (sites_from root (pruned (is_unchanged_since stamps base) new)) before after
+    → AreCompared (sites_from root (pruned (is_kept_since stamps base new) old)) (sites_from root (pruned (is_unchanged_since stamps base) new)) before after
     → map plain_mutation after ≡ map plain_mutation before ++ mutations_between (host_tree_of old) (host_tree_of new)
-stepped_since stamps base old new distinct_old distinct_new low_old low_new alike before after h =
+compared_since stamps base old new distinct_old distinct_new low_old low_new alike before after h =
     let kept = is_kept_since stamps base new in
     let unchanged = is_unchanged_since stamps base in
     mutations_of_sites (pruned kept old) (pruned unchanged new) (pruned_distinct kept old distinct_old) (pruned_distinct unchanged new distinct_new)

@@ -17,11 +17,11 @@ ghost use Rattle.view_flatten.specs.Sites.{HasRoomBelow, is_context, shown_host 
 ghost use Rattle.view_flatten.specs.Walks.{entered_more};
 ghost use Rattle.view_mutation.specs.Mutations.{mutations_between};
 ghost use Rattle.view_mutation.specs.Since.{AreTagged};
-ghost use Rattle.view_mutation.specs.Steps.{AreOneParent, ArePaired, HaveStepped, StandAlike, kept_by, unchanged_by};
+ghost use Rattle.view_mutation.specs.Together.{AreOneParent, ArePaired, AreCompared, StandAlike, kept_by, unchanged_by};
 
 use crate::in_step::add_update;
 use host_views::Mutation;
-use shadow_kinds::{forms_context, forms_view, is_hidden, z_of};
+use shadow_kinds::{forms_context, forms_view, is_hidden, shows_itself, z_of};
 use sqlite_items::Items;
 use std::alloc::{AllocError, Global};
 use view_flatten::{Host, Placed, Spot, Spots, Walk, host_below, shown_host};
@@ -58,14 +58,15 @@ impl Hosts {
 }
 
 /// Whether two nodes have one tag, are hidden both or neither, form contexts and views both or
-/// neither, and have z 0.
-fn stand_alike(was: &Spot, is: &Spot) -> bool
+/// neither, and have z 0; it is known whether the second forms a context.
+fn stand_alike(was: &Spot, is: &Spot, is_host: bool) -> bool
+    requires { is_host ≡ is_context is.now.tree.fields }
     ensures { IsTrue result → StandAlike was.now.tree.fields is.now.tree.fields }
 {
     was.tag() == is.tag()
         && is_hidden(was.props()) == is_hidden(is.props())
-        && forms_context(was.kind(), was.props()) == forms_context(is.kind(), is.props())
-        && forms_view(was.kind(), was.props()) == forms_view(is.kind(), is.props())
+        && forms_context(was.kind(), was.props()) == is_host
+        && (is_host || shows_itself(was.props()) == shows_itself(is.props()))
         && z_of(was.props()) == 0
         && z_of(is.props()) == 0
 }
@@ -86,7 +87,7 @@ fn add_own(
     requires old_frame { IsFrameInBounds was.now.tree.fields.frame }
     requires new_frame { IsFrameInBounds is.now.tree.fields.frame }
     requires skipped { is_skipped ≡ true → was.now.tree.fields ≡ is.now.tree.fields }
-    ensures { OnOk result (HaveStepped (shown_site hosts.was was.now.tree.fields)
+    ensures { OnOk result (AreCompared (shown_site hosts.was was.now.tree.fields)
         (shown_site hosts.is is.now.tree.fields) list.old list.new) }
 {
     let (Some(was_in), Some(is_in)) = (hosts.was, hosts.is) else {
@@ -102,7 +103,7 @@ fn add_own(
 
 /// Goes over a node that is not entered, and adds the update of its view where it is moved; it
 /// answers whether the node's z is 0.
-fn step_kept(
+fn compare_kept(
     alloc: Global,
     list: &mut Items<Mutation>,
     was: &Spot,
@@ -114,7 +115,7 @@ fn step_kept(
     requires old_place { HasRoomBelow 1 hosts.was }
     requires new_place { HasRoomBelow 1 hosts.is }
     requires frame { IsFrameInBounds is.now.tree.fields.frame }
-    ensures { IfOk result (λ all. IsTrue all → HaveStepped
+    ensures { IfOk result (λ all. IsTrue all → AreCompared
         (shown_site (host_shown hosts.was was.now.tree.fields) was.now.tree.fields)
         (shown_site (host_shown hosts.is is.now.tree.fields) is.now.tree.fields) list.old list.new) }
 {
@@ -140,8 +141,8 @@ fn is_unchanged<'n>(base: u64, new: &mut Walk<'n>, is: &Spot<'n>, is_host: bool)
 
 /// Goes over two nodes and what lies below them in step, and adds the updates of their views; it
 /// answers whether they are in step.
-#[cycle(step)]
-fn step_tree<'o, 'n>(
+#[cycle(compare)]
+fn compare_tree<'o, 'n>(
     alloc: Global,
     list: &mut Items<Mutation>,
     base: u64,
@@ -158,7 +159,7 @@ fn step_tree<'o, 'n>(
     requires new_frames { AreFramesInBounds (forest_of (is.now.tree ∷ [])) }
     requires old_room { HasRoomBelow (depth_of (forest_of (was.now.tree ∷ []))) hosts.was }
     requires new_room { HasRoomBelow (depth_of (forest_of (is.now.tree ∷ []))) hosts.is }
-    ensures stepped { IfOk result (λ all. IsTrue all → HaveStepped
+    ensures compared { IfOk result (λ all. IsTrue all → AreCompared
         (shown_sites hosts.was (pruned (kept_by new.old base) (forest_of (was.now.tree ∷ []))))
         (shown_sites hosts.is (pruned (unchanged_by new.old base) (forest_of (is.now.tree ∷ [])))) list.old list.new) }
     ensures old_entered { IfOk result (λ all. IsTrue all → old.new ≡ entered_more old.old (count_outside (kept_by new.old base) (forest_of (was.now.tree ∷ [])))) }
@@ -171,9 +172,9 @@ fn step_tree<'o, 'n>(
     }
     let is_host = forms_context(is.kind(), is.props());
     if is_unchanged(base, new, is, is_host) {
-        return step_kept(alloc, list, was, is, hosts);
+        return compare_kept(alloc, list, was, is, hosts);
     }
-    if !stand_alike(was, is) {
+    if !stand_alike(was, is, is_host) {
         return Ok(false);
     }
     let hosts = hosts.shown(was, is);
@@ -184,12 +185,12 @@ fn step_tree<'o, 'n>(
     };
     let were = old.enter(was);
     let are = new.enter(is);
-    step_forest(alloc, list, base, old, new, were, are, inside)
+    compare_forest(alloc, list, base, old, new, were, are, inside)
 }
 
 /// Goes over two lists of nodes and what lies below them in step.
-#[cycle(step)]
-fn step_forest<'o, 'n>(
+#[cycle(compare)]
+fn compare_forest<'o, 'n>(
     alloc: Global,
     list: &mut Items<Mutation>,
     base: u64,
@@ -206,7 +207,7 @@ fn step_forest<'o, 'n>(
     requires new_frames { AreFramesInBounds are.forest }
     requires old_room { HasRoomBelow (depth_of were.forest) hosts.was }
     requires new_room { HasRoomBelow (depth_of are.forest) hosts.is }
-    ensures stepped { IfOk result (λ all. IsTrue all → HaveStepped
+    ensures compared { IfOk result (λ all. IsTrue all → AreCompared
         (shown_sites hosts.was (pruned (kept_by new.old base) were.entry.forest))
         (shown_sites hosts.is (pruned (unchanged_by new.old base) are.entry.forest)) list.old list.new) }
     ensures old_entered { IfOk result (λ all. IsTrue all → old.new ≡ entered_more old.old (count_outside (kept_by new.old base) were.entry.forest)) }
@@ -219,7 +220,7 @@ fn step_forest<'o, 'n>(
         let Some(was) = were.next() else {
             return Ok(false);
         };
-        if !step_tree(alloc, list, base, old, new, &was, &is, hosts)? {
+        if !compare_tree(alloc, list, base, old, new, &was, &is, hosts)? {
             return Ok(false);
         }
     }
@@ -234,7 +235,7 @@ fn step_forest<'o, 'n>(
 ///
 /// Contexts that are unchanged since the base are not entered, nor is what stands for them in the old
 /// forest. The call fails for want of memory alone.
-pub fn step(
+pub fn updates_together(
     alloc: Global,
     base: u64,
     old: &mut Walk<'_>,
@@ -261,7 +262,7 @@ pub fn step(
         was: Some(Host::root()),
         is: Some(Host::root()),
     };
-    if !step_forest(
+    if !compare_forest(
         alloc, &mut list, base, &mut one, &mut other, were, are, hosts,
     )? {
         return Ok(None);

@@ -6,23 +6,23 @@ use Rattle.tree_settle.specs.Limits.{AreFramesInBounds}
 use Rattle.view_flatten.specs.Placed.{IsSameWalk}
 use Rattle.view_flatten.specs.Sites.{HasRoomBelow}
 use Rattle.view_flatten.specs.Walks.{entered_more}
-use Rattle.view_mutation.specs.Steps.{ArePaired, kept_by, unchanged_by}
-use Rattle.view_mutation.proofs.SteppedTrees.{HaveSteppedBelow}
-use Rattle.view_mutation.proofs.steps.+step.Given as goal
+use Rattle.view_mutation.specs.Together.{ArePaired, kept_by, unchanged_by}
+use Rattle.view_mutation.proofs.ComparedTrees.{AreComparedBelow}
+use Rattle.view_mutation.proofs.together.+compare.Given as goal
 
-abbrev pub decreases-step_tree : goal.decreases-step_tree
-decreases-step_tree l = 2 * node_count l.is.now.tree.children + 1
+abbrev pub decreases-compare_tree : goal.decreases-compare_tree
+decreases-compare_tree l = 2 * node_count l.is.now.tree.children + 1
 
-abbrev pub decreases-step_forest : goal.decreases-step_forest
-decreases-step_forest l = 2 * node_count l.are.forest
+abbrev pub decreases-compare_forest : goal.decreases-compare_forest
+decreases-compare_forest l = 2 * node_count l.are.forest
 
-abbrev pub invariant-step_forest-loop-is : goal.invariant-step_forest-loop-is
-invariant-step_forest-loop-is l = record {
-  can_next : (goal.iterator-step_forest-loop-is).can_next l.is-iterator;
-  is_finite : (goal.iterator-step_forest-loop-is).is_finite l.is-iterator;
+abbrev pub invariant-compare_forest-loop-is : goal.invariant-compare_forest-loop-is
+invariant-compare_forest-loop-is l = record {
+  can_next : (goal.iterator-compare_forest-loop-is).can_next l.is-iterator;
+  is_finite : (goal.iterator-compare_forest-loop-is).is_finite l.is-iterator;
   stamps : l.is-iterator.stamps ≡ l.initial.new.stamps;
-  stepped : (list : List Mutation) → HaveSteppedBelow (kept_by l.initial.new l.base) (unchanged_by l.initial.new l.base) l.hosts.was l.hosts.is l.were.forest l.is-iterator.forest l.list list
-      → HaveSteppedBelow (kept_by l.initial.new l.base) (unchanged_by l.initial.new l.base) l.hosts.was l.hosts.is l.fn.were.forest l.fn.are.forest l.initial.list list;
+  compared : (list : List Mutation) → AreComparedBelow (kept_by l.initial.new l.base) (unchanged_by l.initial.new l.base) l.hosts.was l.hosts.is l.were.forest l.is-iterator.forest l.list list
+      → AreComparedBelow (kept_by l.initial.new l.base) (unchanged_by l.initial.new l.base) l.hosts.was l.hosts.is l.fn.were.forest l.fn.are.forest l.initial.list list;
   pairs : ArePaired (kept_by l.initial.new l.base) (unchanged_by l.initial.new l.base) l.were.forest l.is-iterator.forest;
   old_entered : entered_more l.old (count_outside (kept_by l.initial.new l.base) l.were.forest)
       ≡ entered_more l.initial.old (count_outside (kept_by l.initial.new l.base) l.fn.were.forest);

@@ -13,8 +13,8 @@ use Rattle.view_flatten.specs.declared.sites.Host.{Host}
 use Rattle.view_flatten.specs.Sites.{host_inside, own_site, shown_host, shown_site, shown_sites, sites_from, unless_hidden}
 use Rattle.view_flatten.specs.Placed.{IsSameWalk}
 use Rattle.view_flatten.specs.Walks.{PlainWalk}
-use Rattle.view_mutation.specs.Steps.{ArePaired, HaveStepped, IsPaired, kept_by, unchanged_by}
-use Rattle.view_mutation.proofs.Stepped.{stepped_both, stepped_none}
+use Rattle.view_mutation.specs.Together.{ArePaired, AreCompared, IsPaired, kept_by, unchanged_by}
+use Rattle.view_mutation.proofs.Compared.{compared_both, compared_none}
 
 -- what lies below a node, where it is entered
 abbrev entered_below : (SettledFields → Bool) → SettledFields → PlainForest SettledFields → PlainForest SettledFields
@@ -86,44 +86,44 @@ module _ (one other : PlainWalk) (base : ℕ) (same : IsSameWalk one other) wher
 
 module _ (kept unchanged : SettledFields → Bool) where
   -- what a walk in step over two forests has added to a list
-  abbrev pub HaveSteppedBelow : (was_in is_in : Option Host) (were are : PlainForest SettledFields) (before after : List Mutation) → Type 0
-  HaveSteppedBelow was_in is_in were are before after = HaveStepped (shown_sites was_in (pruned kept were)) (shown_sites is_in (pruned unchanged are)) before after
+  abbrev pub AreComparedBelow : (was_in is_in : Option Host) (were are : PlainForest SettledFields) (before after : List Mutation) → Type 0
+  AreComparedBelow was_in is_in were are before after = AreCompared (shown_sites was_in (pruned kept were)) (shown_sites is_in (pruned unchanged are)) before after
 
   module _ (was_in is_in : Option Host) where
     -- where there are no nodes
-    pub stepped_at_end : (list : List Mutation) → HaveSteppedBelow was_in is_in none none list list
-    stepped_at_end list = subst (λ old. HaveStepped old (shown_sites is_in none) list list) (sym (shown_nothing was_in)) (subst (λ new. HaveStepped [] new list list) (sym (shown_nothing is_in)) (stepped_none list))
+    pub compared_at_end : (list : List Mutation) → AreComparedBelow was_in is_in none none list list
+    compared_at_end list = subst (λ old. AreCompared old (shown_sites is_in none) list list) (sym (shown_nothing was_in)) (subst (λ new. AreCompared [] new list list) (sym (shown_nothing is_in)) (compared_none list))
 
     module _ (was is : PlainNode SettledFields) where
       -- at two trees, and then at later ones
-      pub stepped_trees : (were are : PlainForest SettledFields) (a b c : List Mutation)
-          → HaveSteppedBelow was_in is_in (forest_of (was ∷ [])) (forest_of (is ∷ [])) a b → HaveSteppedBelow was_in is_in were are b c
-          → HaveSteppedBelow was_in is_in (node was.fields was.children were) (node is.fields is.children are) a c
-      stepped_trees were are a b c h k =
-          subst (λ old. HaveStepped old (shown_sites is_in (pruned unchanged (node is.fields is.children are))) a c) (sym (shown_both kept was_in was were))
-          (subst (λ new. HaveStepped (shown_sites was_in (pruned kept (forest_of (was ∷ []))) ++ shown_sites was_in (pruned kept were)) new a c) (sym (shown_both unchanged is_in is are))
-          (stepped_both (shown_sites was_in (pruned kept (forest_of (was ∷ [])))) (shown_sites is_in (pruned unchanged (forest_of (is ∷ []))))
+      pub compared_trees : (were are : PlainForest SettledFields) (a b c : List Mutation)
+          → AreComparedBelow was_in is_in (forest_of (was ∷ [])) (forest_of (is ∷ [])) a b → AreComparedBelow was_in is_in were are b c
+          → AreComparedBelow was_in is_in (node was.fields was.children were) (node is.fields is.children are) a c
+      compared_trees were are a b c h k =
+          subst (λ old. AreCompared old (shown_sites is_in (pruned unchanged (node is.fields is.children are))) a c) (sym (shown_both kept was_in was were))
+          (subst (λ new. AreCompared (shown_sites was_in (pruned kept (forest_of (was ∷ []))) ++ shown_sites was_in (pruned kept were)) new a c) (sym (shown_both unchanged is_in is are))
+          (compared_both (shown_sites was_in (pruned kept (forest_of (was ∷ [])))) (shown_sites is_in (pruned unchanged (forest_of (is ∷ []))))
           (shown_sites was_in (pruned kept were)) (shown_sites is_in (pruned unchanged are)) a b c h k))
 
       -- at two nodes that are not entered
-      pub stepped_kept : (a b : List Mutation) → kept was.fields ≡ true → unchanged is.fields ≡ true
-          → HaveStepped (shown_site (shown_host was_in was.fields) was.fields) (shown_site (shown_host is_in is.fields) is.fields) a b
-          → HaveSteppedBelow was_in is_in (forest_of (was ∷ [])) (forest_of (is ∷ [])) a b
-      stepped_kept a b old_is new_is h =
-          subst (λ old. HaveStepped old (shown_sites is_in (pruned unchanged (forest_of (is ∷ [])))) a b) (sym (shown_kept kept was_in was old_is))
-          (subst (λ new. HaveStepped (shown_site (shown_host was_in was.fields) was.fields) new a b) (sym (shown_kept unchanged is_in is new_is)) h)
+      pub compared_kept : (a b : List Mutation) → kept was.fields ≡ true → unchanged is.fields ≡ true
+          → AreCompared (shown_site (shown_host was_in was.fields) was.fields) (shown_site (shown_host is_in is.fields) is.fields) a b
+          → AreComparedBelow was_in is_in (forest_of (was ∷ [])) (forest_of (is ∷ [])) a b
+      compared_kept a b old_is new_is h =
+          subst (λ old. AreCompared old (shown_sites is_in (pruned unchanged (forest_of (is ∷ [])))) a b) (sym (shown_kept kept was_in was old_is))
+          (subst (λ new. AreCompared (shown_site (shown_host was_in was.fields) was.fields) new a b) (sym (shown_kept unchanged is_in is new_is)) h)
 
       -- at two nodes that are entered: the nodes themselves, and what lies below
-      pub stepped_entered : (a b c : List Mutation) → kept was.fields ≡ false → unchanged is.fields ≡ false
-          → HaveStepped (shown_site (shown_host was_in was.fields) was.fields) (shown_site (shown_host is_in is.fields) is.fields) a b
-          → HaveSteppedBelow (inside was_in was.fields) (inside is_in is.fields) was.children is.children b c
-          → HaveSteppedBelow was_in is_in (forest_of (was ∷ [])) (forest_of (is ∷ [])) a c
-      stepped_entered a b c old_isnt new_isnt h k =
+      pub compared_entered : (a b c : List Mutation) → kept was.fields ≡ false → unchanged is.fields ≡ false
+          → AreCompared (shown_site (shown_host was_in was.fields) was.fields) (shown_site (shown_host is_in is.fields) is.fields) a b
+          → AreComparedBelow (inside was_in was.fields) (inside is_in is.fields) was.children is.children b c
+          → AreComparedBelow was_in is_in (forest_of (was ∷ [])) (forest_of (is ∷ [])) a c
+      compared_entered a b c old_isnt new_isnt h k =
           let old_own = shown_site (shown_host was_in was.fields) was.fields in
           let new_own = shown_site (shown_host is_in is.fields) is.fields in
-          subst (λ old. HaveStepped old (shown_sites is_in (pruned unchanged (forest_of (is ∷ [])))) a c) (sym (shown_entered kept was_in was old_isnt))
-          (subst (λ new. HaveStepped (old_own ++ shown_sites (inside was_in was.fields) (pruned kept was.children)) new a c) (sym (shown_entered unchanged is_in is new_isnt))
-          (stepped_both old_own new_own (shown_sites (inside was_in was.fields) (pruned kept was.children)) (shown_sites (inside is_in is.fields) (pruned unchanged is.children)) a b c h k))
+          subst (λ old. AreCompared old (shown_sites is_in (pruned unchanged (forest_of (is ∷ [])))) a c) (sym (shown_entered kept was_in was old_isnt))
+          (subst (λ new. AreCompared (old_own ++ shown_sites (inside was_in was.fields) (pruned kept was.children)) new a c) (sym (shown_entered unchanged is_in is new_isnt))
+          (compared_both old_own new_own (shown_sites (inside was_in was.fields) (pruned kept was.children)) (shown_sites (inside is_in is.fields) (pruned unchanged is.children)) a b c h k))
 
   -- the pairs of two nodes, of what lies below them, and of later trees
   module _ (was is : PlainNode SettledFields) (were are : PlainForest SettledFields) (pairs : ArePaired kept unchanged (node was.fields was.children were) (node is.fields is.children are)) where
