@@ -1,0 +1,7 @@
+//! What tools ask of a surface: where a node is, what lies over it, and what its history leads to.
+#![tactic(auto)]
+
+mod measuring;
+mod places;
+
+pub use measuring::measure;
