@@ -1,2 +1,4 @@
 pub mod Rooms
 pub mod Measures
+pub mod Searches
+pub mod Near

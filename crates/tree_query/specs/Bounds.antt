@@ -1,10 +1,14 @@
 -- How far places lie from 0.
-use Rattle.std.specs.Prelude.{pos, negsuc, ◌^◌, ◌≤ℤ◌}
+use Rattle.std.specs.Prelude.{ℕ, pos, ◌^◌, ◌+ℤ◌, ◌≤ℤ◌}
 use Rattle.shadow_frame.specs.declared.Point.{Point}
 
--- a place is at most 2^61 points away from 0 along each axis, so that a sum of two such places does not leave 64 bits
-pub record IsPlaceNear (place : Point) : Type 0 where
-  pub x_low : negsuc (2 ^ 61) ≤ℤ place.x
-  pub x_high : place.x ≤ℤ pos (2 ^ 61)
-  pub y_low : negsuc (2 ^ 61) ≤ℤ place.y
-  pub y_high : place.y ≤ℤ pos (2 ^ 61)
+-- a place is at most so many points away from 0 along each axis
+pub record IsPlaceWithin (most : ℕ) (place : Point) : Type 0 where
+  pub x_low : pos 0 ≤ℤ (place.x +ℤ pos most)
+  pub x_high : place.x ≤ℤ pos most
+  pub y_low : pos 0 ≤ℤ (place.y +ℤ pos most)
+  pub y_high : place.y ≤ℤ pos most
+
+-- two places that are so near have a sum that does not leave 64 bits
+abbrev pub IsPlaceNear : Point → Type 0
+IsPlaceNear place = IsPlaceWithin (2 ^ 61) place

@@ -1,3 +1,6 @@
 pub mod Bounds
 pub mod Measured
 pub mod Found
+pub mod Topmost
+pub mod Flattening
+pub mod Search

@@ -1,7 +1,9 @@
 //! What tools ask of a surface: where a node is, what lies over it, and what its history leads to.
 #![tactic(auto)]
 
+mod hitting;
 mod measuring;
 mod places;
 
+pub use hitting::hit;
 pub use measuring::measure;

@@ -6,12 +6,9 @@ ghost use Rattle.tree_settle.specs.Limits.{AreFramesInBounds, IsForestInLimits, 
 ghost use Rattle.tree_query.specs.Found.{HasRoomFrom, begin_below, begin_inside, found_from, rectangle_of};
 ghost use Rattle.tree_query.specs.Measured.{measured};
 
-use crate::places::moved_by;
+use crate::places::{CORNER, moved_by};
 use shadow_frame::{Point, Rect};
 use shadow_node::{Forest, ShadowNode};
-
-/// The corner of the surface or of a node.
-const CORNER: Point = Point { x: 0, y: 0 };
 
 /// A node that a walk came to.
 #[derive(Clone, Copy)]

@@ -1,16 +1,19 @@
 //! Places that are moved, without a sum that leaves 64 bits.
 
-ghost use Rattle.std.specs.Prelude.{◌≡◌, ◌+ℤ◌, ◌≤ℤ◌, ◌^◌, pos, negsuc};
+ghost use Rattle.std.specs.Prelude.{◌≡◌, ◌+ℤ◌, ◌≤ℤ◌, ◌^◌, pos};
 ghost use Rattle.view_flatten.specs.HostTree.{moved};
 ghost use Rattle.tree_query.specs.Bounds.{IsPlaceNear};
 
 use shadow_frame::Point;
 
+/// The corner of the surface or of a node.
+pub(crate) const CORNER: Point = Point { x: 0, y: 0 };
+
 /// A coordinate moved by another.
 fn coordinate_after(coordinate: i64, by: i64) -> i64
-    requires low { negsuc (2 ^ 61) ≤ℤ coordinate }
+    requires low { pos 0 ≤ℤ (coordinate +ℤ pos (2 ^ 61)) }
     requires high { coordinate ≤ℤ pos (2 ^ 61) }
-    requires by_low { negsuc (2 ^ 61) ≤ℤ by }
+    requires by_low { pos 0 ≤ℤ (by +ℤ pos (2 ^ 61)) }
     requires by_high { by ≤ℤ pos (2 ^ 61) }
     ensures { result ≡ coordinate +ℤ by }
 {
