@@ -2,3 +2,4 @@ pub mod Rooms
 pub mod Measures
 pub mod Searches
 pub mod Near
+pub mod Rebuilds

@@ -4,3 +4,5 @@ pub mod Found
 pub mod Topmost
 pub mod Flattening
 pub mod Search
+pub mod Rebuilt
+pub mod LedTo

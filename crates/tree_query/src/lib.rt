@@ -4,6 +4,8 @@
 mod hitting;
 mod measuring;
 mod places;
+mod rebuild;
 
 pub use hitting::hit;
 pub use measuring::measure;
+pub use rebuild::Rebuild;
