@@ -5,6 +5,8 @@ mod hitting;
 mod measuring;
 mod places;
 mod rebuild;
+#[cfg(test)]
+mod tests;
 
 pub use hitting::hit;
 pub use measuring::measure;
