@@ -1,11 +1,12 @@
 -- Rebuilds that grow by one record, and what a change leads to in them.
-use Rattle.std.proofs.Common.{◌≡◌, ◌+◌, ◌-◌, ◌<◌, ◌≤◌, ℕ, zero, suc, List, [], ◌∷◌, ◌++◌, length, take, get_or, Option, Some, None, Result, Ok, Err, IfOk, IfErr, refl, ap, sym, subst, ◌∙◌, arith, inl, inr, append_assoc, length-append}
+use Rattle.std.proofs.Common.{◌≡◌, ◌+◌, ◌-◌, ◌<◌, ◌≤◌, ℕ, zero, suc, List, [], ◌∷◌, ◌++◌, length, take, get_or, Option, Some, None, Result, Ok, Err, refl, ap, sym, subst, ◌∙◌, arith, inl, inr, append_assoc, length-append}
 use Rattle.std.proofs.lemmas.Bool.{cases_lt}
 use Rattle.std.proofs.lemmas.List.{append-nil, get_or_push, length-take-le, take-append-le}
 use Rattle.std.proofs.lemmas.Option.{none-some, same_Some, slice_get-get_or, slice_get_within}
 use Rattle.std.proofs.Math.ListN.{get_or-append}
 use Rattle.std.proofs.Math.Seq.{take-length}
 use Rattle.std.specs.Prelude.{slice_get}
+use Rattle.std.specs.Result.{result_err}
 use Rattle.shadow_frame.specs.declared.Size.{Size}
 use Rattle.tree_revision.specs.Records.{PlainOp, PlainRecord}
 use Rattle.tree_revision.specs.Cancels.{cancel_of}
@@ -15,18 +16,9 @@ use Rattle.tree_revision.specs.Settled.{KeptRevision}
 use Rattle.tree_revision.specs.Stands.{StandsFor}
 use Rattle.tree_revision.specs.declared.record.Cancel.{Cancel}
 use Rattle.tree_revision.specs.declared.next.PrepareRefusal.{PrepareRefusal}
-use Rattle.tree_query.specs.LedTo.{IsRefusedAt, LeadsTo}
+use Rattle.tree_revision.specs.declared.next.PrepareRefusal.TheVariants.{Cancel as CancelRefusal}
+use Rattle.tree_query.specs.LedTo.{IsNextAfter, LeadsTo}
 use Rattle.tree_query.specs.Rebuilt.{PlainRebuild, IsCauseAt, IsRebuild, IsRebuildOf, last_number}
-
--- of an answer more is known
-pub if_ok_then : {A E : Type 0} (P Q : A → Type 0) → ((a : A) → P a → Q a) → (answer : Result A E) → IfOk answer P → IfOk answer Q
-if_ok_then P Q more (Ok a) h = more a h
-if_ok_then P Q more (Err e) h = tt
-
--- and of a refusal
-pub if_err_then : {A E : Type 0} (P Q : E → Type 0) → ((e : E) → P e → Q e) → (answer : Result A E) → IfErr answer P → IfErr answer Q
-if_err_then P Q more (Ok a) h = tt
-if_err_then P Q more (Err e) h = more e h
 
 -- the first of some first elements are the first elements
 taken : {A : Type 0} (less more : ℕ) (xs : List A) → less ≤ more → take less (take more xs) ≡ take less xs
@@ -64,8 +56,8 @@ module _ (rebuild : PlainRebuild) (op : PlainOp) (at held : ℕ) (front own : Ke
       (subst (λ n. StandsFor first own (take n (take at entries))) (sym is_held) (own_stands first entries h)) is_op
 
   -- and is refused for the cause of a cancel
-  pub refused_at : (refusal : PrepareRefusal) → IsCancelledFor op front own refusal → IsRefusedAt rebuild op at held refusal
-  refused_at refusal cancelled = λ cause is first entries h.
+  pub cancelled_at : (refusal : PrepareRefusal) (cause : Cancel) → refusal ≡ CancelRefusal cause → IsCancelledFor op front own refusal → IsCauseAt rebuild op at held (Some cause)
+  cancelled_at refusal cause is cancelled = λ first entries h.
       cancelled cause is first (take at entries) held (stands_at first rebuild entries at front h within front_is) (own_stands first entries h)
 
 -- a change that leads to a revision has no cause to be cancelled
@@ -124,3 +116,9 @@ pub cause_after_all : (rebuild : PlainRebuild) (op : PlainOp) (held : ℕ) (caus
     → (first : Size) (entries : List PlainRecord) → IsRebuildOf first rebuild entries → cancel_of first op entries held ≡ cause
 cause_after_all rebuild op held cause is first entries h =
     ap (λ l. cancel_of first op l held) (sym (all_taken first rebuild entries h)) ∙ is first entries h
+
+-- the cause, where there is one, of what a change leads to
+pub cause_of_next : (rebuild : PlainRebuild) (op : PlainOp) (at held : ℕ) (answer : Result KeptRevision Cancel) → IsNextAfter rebuild op at held answer
+    → IsCauseAt rebuild op at held (result_err answer)
+cause_of_next rebuild op at held (Ok next) h = no_cause rebuild op at held next h
+cause_of_next rebuild op at held (Err cause) h = h

@@ -1,13 +1,13 @@
 //! A history that is built up again, with the revision of each number.
 
-ghost use Rattle.std.specs.Prelude.{◌≡◌, ◌+◌, ◌≤◌, ◌<◌, List, [], length, take, slice_get, IfOk, IfErr, MatchOption};
+ghost use Rattle.std.specs.Prelude.{◌≡◌, ◌+◌, ◌≤◌, ◌<◌, List, [], length, take, slice_get, IfOk, MatchOption};
 ghost use Rattle.std.specs.Option.{option_copied};
 ghost use Rattle.shadow_frame.specs.declared.Size.{Size as SurfaceSize};
 ghost use Rattle.tree_settle.specs.Limits.{IsSizeInRange};
 ghost use Rattle.tree_revision.specs.InRange.{IsOpInRange};
 ghost use Rattle.tree_revision.specs.Records.{PlainRecord, plain_op, plain_record};
 ghost use Rattle.tree_revision.specs.Stands.{StandsFor};
-ghost use Rattle.tree_query.specs.LedTo.{IsRefusedAt, LeadsTo};
+ghost use Rattle.tree_query.specs.LedTo.{IsNextAfter};
 ghost use Rattle.tree_query.specs.Rebuilt.{IsCauseAt, IsPushAnswer, IsRebuildOf, last_number};
 
 use shadow_frame::Size;
@@ -65,23 +65,27 @@ impl Rebuild {
         self.revisions.get(number as usize)
     }
 
-    /// The revision after a change at the revision of a number, by a caller that holds another.
+    /// What a change leads to at the revision of a number, by a caller that holds another: the
+    /// next revision, or the cause for which it is cancelled.
     fn next_after(
         &self,
         made: &mut Made,
         op: &Op,
         at: u64,
         held: u64,
-    ) -> Result<Revision, PrepareRefusal>
+    ) -> Result<Result<Revision, Cancel>, AllocError>
         requires op { IsOpInRange (plain_op op.now) }
         requires held { held ≤ at }
         requires at { at ≤ last_number self.now }
-        ensures next { IfOk result (LeadsTo self.now (plain_op op.now) at held) }
-        ensures refused { IfErr result (IsRefusedAt self.now (plain_op op.now) at held) }
+        ensures { IfOk result (IsNextAfter self.now (plain_op op.now) at held) }
     {
         let front = &self.revisions[at as usize];
         let held = &self.revisions[held as usize];
-        prepare(self.alloc, made, op, front, held)
+        match prepare(self.alloc, made, op, front, held) {
+            Ok(next) => Ok(Ok(next)),
+            Err(PrepareRefusal::Cancel(cause)) => Ok(Err(cause)),
+            Err(PrepareRefusal::Memory) => Err(AllocError),
+        }
     }
 
     /// Adds a record, where nothing cancels its change; else the cause is answered.
@@ -94,13 +98,12 @@ impl Rebuild {
         requires held { entry.now.held ≤ last_number self.old }
         ensures { IsPushAnswer self.old self.new (plain_record entry.now) result }
     {
-        match self.next_after(made, &entry.op, self.len(), entry.held) {
+        match self.next_after(made, &entry.op, self.len(), entry.held)? {
             Ok(next) => {
                 self.revisions.push(next)?;
                 Ok(None)
             }
-            Err(PrepareRefusal::Cancel(cause)) => Ok(Some(cause)),
-            Err(PrepareRefusal::Memory) => Err(AllocError),
+            Err(cause) => Ok(Some(cause)),
         }
     }
 
@@ -121,10 +124,6 @@ impl Rebuild {
         requires at { at ≤ last_number self.now }
         ensures { IfOk result (IsCauseAt self.now (plain_op op.now) at held) }
     {
-        match self.next_after(made, op, at, held) {
-            Ok(_) => Ok(None),
-            Err(PrepareRefusal::Cancel(cause)) => Ok(Some(cause)),
-            Err(PrepareRefusal::Memory) => Err(AllocError),
-        }
+        Ok(self.next_after(made, op, at, held)?.err())
     }
 }

@@ -239,7 +239,11 @@ fn a_text_is_hit_where_it_is_not_clipped(rt: HostRuntime) -> Result<(), Fail> {
     }
     assert!(rt; commit(alloc, &mut rebuild, &mut made, clip(0))?.is_none());
     for (x, y, want) in [(60, 10, Some(3)), (45, 10, Some(3)), (10, 10, None)] {
-        assert_eq!(rt; hit_at(alloc, &rebuild, x, y)?, want, "{x} {y}, not clipped");
+        assert_eq!(rt;
+            hit_at(alloc, &rebuild, x, y)?,
+            want,
+            "{x} {y}, not clipped"
+        );
     }
     Ok(())
 }
