@@ -3,3 +3,4 @@ pub mod Measures
 pub mod Searches
 pub mod Near
 pub mod Rebuilds
+pub mod HostLines

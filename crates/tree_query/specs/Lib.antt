@@ -6,3 +6,4 @@ pub mod Flattening
 pub mod Search
 pub mod Rebuilt
 pub mod LedTo
+pub mod HostLines

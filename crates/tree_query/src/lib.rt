@@ -2,6 +2,7 @@
 #![tactic(auto)]
 
 mod hitting;
+pub mod laws;
 mod measuring;
 mod places;
 mod rebuild;
