@@ -16,7 +16,7 @@ use Rattle.view_flatten.proofs.Distinct.{each_in_both}
 use Rattle.view_flatten.proofs.Shorthands.{is_context}
 use Rattle.view_flatten.proofs.Views.{each_view}
 use Rattle.tree_query.specs.Bounds.{IsPlaceWithin, IsPlaceNear}
-use Rattle.tree_query.specs.Flattening.{IsFlattening, IsPointInRange}
+use Rattle.tree_query.specs.Flattening.{IsFlattening}
 use Rattle.tree_query.specs.Topmost.{absolute_origin, host_line}
 use Rattle.tree_query.proofs.Rooms.{levels_of}
 
@@ -33,10 +33,6 @@ frame_within frame h = record { x_low = omega (arith, ints); x_high = omega (ari
 
 corner_within : (most : ℕ) → IsPlaceWithin most (record { x = pos 0; y = pos 0 })
 corner_within most = record { x_low = omega (arith, ints); x_high = omega (arith, ints); y_low = omega (arith, ints); y_high = omega (arith, ints) }
-
--- a point that may be asked for is near
-pub point_near : (point : Point) → IsPointInRange point → IsPlaceNear point
-point_near point h = record { x_low = omega (arith, ints); x_high = omega (arith, ints); y_low = omega (arith, ints); y_high = omega (arith, ints) }
 
 -- the frames of some ancestors are in bounds
 abbrev AreAboveInBounds : List SettledFields → Type 0
@@ -103,7 +99,7 @@ lines_more count placed earlier h k tag =
 
 -- of at most 2,000 views all begin near enough
 pub lines_near : (count : ℕ) (earlier : PlainHostTree) → count ≤ 2000 → AreLinesWithin count earlier → (tag : ℕ) → IsPlaceNear (absolute_origin (host_line earlier tag))
-lines_near count earlier few h tag = within_more (5040000000 * count) 2305843009213693952 (absolute_origin (host_line earlier tag)) (omega (arith, few)) (h tag)
+lines_near count earlier few h tag = within_more (5040000000 * count) 1152921504606846976 (absolute_origin (host_line earlier tag)) (omega (arith, few)) (h tag)
 
 -- a view of a flattening begins so near to its host parent
 pub view_within : (views : List PlacedView) (k : ℕ) (d : PlacedView) → IsFlattening (map plain_placed views) → k < length views → d ≡ get_or views k d

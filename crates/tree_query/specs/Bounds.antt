@@ -9,6 +9,6 @@ pub record IsPlaceWithin (most : ℕ) (place : Point) : Type 0 where
   pub y_low : pos 0 ≤ℤ (place.y +ℤ pos most)
   pub y_high : place.y ≤ℤ pos most
 
--- two places that are so near have a sum that does not leave 64 bits
+-- a place that is so near to 0 that sums of two such places, and their differences from points that may be asked for, do not leave 64 bits
 abbrev pub IsPlaceNear : Point → Type 0
-IsPlaceNear place = IsPlaceWithin (2 ^ 61) place
+IsPlaceNear place = IsPlaceWithin (2 ^ 60) place

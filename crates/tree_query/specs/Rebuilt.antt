@@ -1,5 +1,5 @@
 -- A history that is built up again record by record: the revisions of its numbers.
-use Rattle.std.specs.Prelude.{◌≡◌, ℕ, ◌+◌, ◌-◌, List, [], ◌∷◌, ◌++◌, length, take, slice_get, Option, Some, None, Result, Ok, Err}
+use Rattle.std.specs.Prelude.{◌≡◌, ◌≤◌, ◌<◌, ℕ, ◌+◌, ◌-◌, List, [], ◌∷◌, ◌++◌, length, take, slice_get, Option, Some, None, Result, Ok, Err}
 use Rattle.std.specs.Coded.{Coded, coded_list}
 use Rattle.std.specs.declared.alloc.AllocError.{AllocError}
 use Rattle.shadow_frame.specs.declared.Size.{Size}
@@ -30,6 +30,16 @@ pub record IsRebuild (rebuild : PlainRebuild) : Type 0 where
   pub first : Size
   pub entries : List PlainRecord
   pub stands : IsRebuildOf first rebuild entries
+
+-- a number is how many records it has, whichever list it stands for
+abbrev pub IsCountOf : PlainRebuild → ℕ → Type 0
+IsCountOf rebuild count = (first : Size) (entries : List PlainRecord) → IsRebuildOf first rebuild entries → count ≡ length entries
+
+-- the revision of a number stands for as many of the first records; there is none exactly above their count
+abbrev pub IsRevisionAt : PlainRebuild → ℕ → Option KeptRevision → Type 0
+IsRevisionAt rebuild number None = (first : Size) (entries : List PlainRecord) → IsRebuildOf first rebuild entries → length entries < number
+IsRevisionAt rebuild number (Some revision) =
+    (first : Size) (entries : List PlainRecord) → IsRebuildOf first rebuild entries → (number ≤ length entries) × StandsFor first revision (take number entries)
 
 -- a change has that cause to be cancelled, or none, at a number of a rebuild, by a caller that holds another
 abbrev pub IsCauseAt : PlainRebuild → PlainOp → (at held : ℕ) → Option Cancel → Type 0

@@ -35,10 +35,10 @@ pub(crate) struct Search {
 
 /// Whether a number is at least a start, and below that start plus a length.
 fn is_from_to(start: i64, length: i64, number: i64) -> bool
-    requires start_low { pos 0 ≤ℤ (start +ℤ pos (2 ^ 62)) }
-    requires start_high { start ≤ℤ pos (2 ^ 62) }
-    requires low { pos 0 ≤ℤ (number +ℤ pos (2 ^ 61)) }
-    requires high { number ≤ℤ pos (2 ^ 61) }
+    requires start_low { pos 0 ≤ℤ (start +ℤ pos (2 ^ 61)) }
+    requires start_high { start ≤ℤ pos (2 ^ 61) }
+    requires low { pos 0 ≤ℤ (number +ℤ pos 5000000000000000000) }
+    requires high { number ≤ℤ pos 5000000000000000000 }
     ensures { result ≡ is_from_to start length number }
 {
     start <= number && number - start < length
@@ -46,8 +46,8 @@ fn is_from_to(start: i64, length: i64, number: i64) -> bool
 
 /// Whether what begins there and has that size holds a point.
 fn is_held(origin: Point, size: Size, at: Point) -> bool
-    requires origin { IsPlaceWithin (2 ^ 62) origin }
-    requires at { IsPlaceNear at }
+    requires origin { IsPlaceWithin (2 ^ 61) origin }
+    requires at { IsPointInRange at }
     ensures { result ≡ is_held origin size at }
 {
     is_from_to(origin.x, size.width, at.x) && is_from_to(origin.y, size.height, at.y)
@@ -73,7 +73,7 @@ impl Inside {
     fn meet(self, view: &HostView, at: Point) -> Met
         requires begin { IsPlaceNear self.begin }
         requires origin { IsPlaceNear view.now.frame.origin }
-        requires at { IsPlaceNear at }
+        requires at { IsPointInRange at }
         ensures hit { result.is_hit ≡ is_hit at self view.now }
         ensures inside { result.inside ≡ inside_view at self view.now }
     {
@@ -105,7 +105,7 @@ impl Search {
 
     /// Goes on to the next view.
     fn add(&mut self, placed: &PlacedView) -> Result<(), AllocError>
-        requires at { IsPlaceNear self.old.at }
+        requires at { IsPointInRange self.old.at }
         requires near { AreInsidesNear self.old }
         requires origin { IsPlaceNear placed.now.view.value.frame.origin }
         ensures at { self.new.at ≡ self.old.at }
@@ -123,8 +123,8 @@ impl Search {
 /// The tag of the topmost view at a point of the surface: the last one in host preorder that holds
 /// the point and all of whose host ancestors that clip hold it. It is `None` where there is none.
 ///
-/// The tree is a flattening, and each coordinate is below 10,000,000,000 in amount. The call fails
-/// for want of memory alone, and goes over the views once.
+/// The tree is a flattening, and each coordinate is at most 5,000,000,000,000,000,000 in amount. The
+/// call fails for want of memory alone, and goes over the views once.
 pub fn hit(alloc: Global, tree: &HostTree, at: Point) -> Result<Option<u32>, AllocError>
     requires tree { IsFlattening (plain_tree tree.now) }
     requires at { IsPointInRange at }

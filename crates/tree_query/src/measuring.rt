@@ -3,6 +3,7 @@
 ghost use Rattle.std.specs.Prelude.{◌≡◌, ◌≤◌, [], IfSome};
 ghost use Rattle.shadow_node.specs.Forest.{depth_of};
 ghost use Rattle.tree_settle.specs.Limits.{AreFramesInBounds, IsForestInLimits, IsFrameInBounds};
+ghost use Rattle.tree_query.specs.Bounds.{IsPlaceWithin};
 ghost use Rattle.tree_query.specs.Found.{HasRoomFrom, begin_below, begin_inside, found_from, rectangle_of};
 ghost use Rattle.tree_query.specs.Measured.{measured};
 
@@ -24,7 +25,8 @@ impl Found {
     fn rectangle(self) -> Option<Rect>
         requires room { HasRoomFrom 1 self.begin }
         requires frame { IsFrameInBounds self.frame }
-        ensures { result ≡ rectangle_of self }
+        ensures place { result ≡ rectangle_of self }
+        ensures origin { IfSome result (λ place. IsPlaceWithin 5040000000 place.origin) }
     {
         match self.begin {
             Some(place) => Some(Rect {
@@ -90,11 +92,12 @@ fn find_place(forest: &Forest, tag: u32, against: u32, begin: Option<Point>) -> 
 /// sum of the frame origins from below that ancestor down to the node, and the node's size.
 ///
 /// The forest is that of a revision. It is `None` where the forest has no node of that tag, and
-/// where this has no such ancestor; a node is none of its own. It takes no memory, and time in
-/// proportion to the nodes that come before this one.
+/// where this has no such ancestor; a node is none of its own. The place is at most 5,040,000,000
+/// points away. It takes no memory, and time in proportion to the nodes that come before this one.
 pub fn measure(forest: &Forest, tag: u32, against: u32) -> Option<Rect>
     requires { IsForestInLimits forest.now }
-    ensures { result ≡ measured forest.now tag against }
+    ensures place { result ≡ measured forest.now tag against }
+    ensures origin { IfSome result (λ place. IsPlaceWithin 5040000000 place.origin) }
 {
     let found = find_place(forest, tag, against, begin_at_top(against))?;
     found.rectangle()

@@ -1,14 +1,12 @@
 //! A history that is built up again, with the revision of each number.
 
-ghost use Rattle.std.specs.Prelude.{◌≡◌, ◌+◌, ◌≤◌, ◌<◌, List, [], length, take, slice_get, IfOk, MatchOption};
+ghost use Rattle.std.specs.Prelude.{◌≡◌, ◌≤◌, [], slice_get, IfOk};
 ghost use Rattle.std.specs.Option.{option_copied};
-ghost use Rattle.shadow_frame.specs.declared.Size.{Size as SurfaceSize};
 ghost use Rattle.tree_settle.specs.Limits.{IsSizeInRange};
 ghost use Rattle.tree_revision.specs.InRange.{IsOpInRange};
-ghost use Rattle.tree_revision.specs.Records.{PlainRecord, plain_op, plain_record};
-ghost use Rattle.tree_revision.specs.Stands.{StandsFor};
+ghost use Rattle.tree_revision.specs.Records.{plain_op, plain_record};
 ghost use Rattle.tree_query.specs.LedTo.{IsNextAfter};
-ghost use Rattle.tree_query.specs.Rebuilt.{IsCauseAt, IsPushAnswer, IsRebuildOf, last_number};
+ghost use Rattle.tree_query.specs.Rebuilt.{IsCauseAt, IsCountOf, IsPushAnswer, IsRebuildOf, IsRevisionAt, last_number};
 
 use shadow_frame::Size;
 use shadow_node::Made;
@@ -51,7 +49,7 @@ impl Rebuild {
     /// How many records there are.
     pub fn len(&self) -> u64
         ensures len { result ≡ last_number self.now }
-        ensures records { (first : SurfaceSize) (entries : List PlainRecord) → IsRebuildOf first self.now entries → result ≡ length entries }
+        ensures records { IsCountOf self.now result }
     {
         (self.revisions.len() - 1) as u64
     }
@@ -59,8 +57,7 @@ impl Rebuild {
     /// The revision that stands for so many of the first records. It is `None` above `len`.
     pub fn at(&self, number: u64) -> Option<&Revision>
         ensures revision { option_copied result ≡ slice_get self.now number }
-        ensures stands { (first : SurfaceSize) (entries : List PlainRecord) → IsRebuildOf first self.now entries
-            → MatchOption result (length entries < number) (λ revision. StandsFor first revision.now (take number entries)) }
+        ensures stands { IsRevisionAt self.now number (option_copied result) }
     {
         self.revisions.get(number as usize)
     }

@@ -182,8 +182,8 @@ fn point(x: i64, y: i64) -> Point
     ensures { IsPointInRange result }
 {
     Point {
-        x: x.clamp(-9_999_999_999, 9_999_999_999),
-        y: y.clamp(-9_999_999_999, 9_999_999_999),
+        x: x.clamp(-1_000_000, 1_000_000),
+        y: y.clamp(-1_000_000, 1_000_000),
     }
 }
 

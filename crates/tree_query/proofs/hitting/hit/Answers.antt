@@ -22,7 +22,7 @@ pub add-requires-clause-origin : goal.add-requires-clause-origin
 add-requires-clause-origin c =
     let views = c.as_slice-views.result.now in
     let flat : IsFlattening (map plain_placed views) = subst (λ list. IsFlattening (map plain_placed list)) (sym c.as_slice-views.ensures) c.requires.tree in
-    within_more 5040000000 2305843009213693952 c.placed-item.result.view.value.frame.origin (omega arith)
+    within_more 5040000000 1152921504606846976 c.placed-item.result.view.value.frame.origin (omega arith)
     (view_within views c.loop-placed.placed-index c.placed-item.result flat c.loop-placed-test.true c.placed-item.is)
 
 pub loop-placed-preserved : goal.loop-placed-preserved

@@ -6,4 +6,4 @@ use Rattle.tree_query.proofs.hitting.Inside.meet.Goals as goal
 
 pub is_held-is_held-requires-clause-origin : goal.is_held-is_held-requires-clause-origin
 is_held-is_held-requires-clause-origin c =
-    subst (IsPlaceWithin (2 ^ 62)) (sym c.moved_by-begin.ensures) (within_moved (2 ^ 61) (2 ^ 61) c.args.self.begin c.args.view.now.frame.origin c.requires.begin c.requires.origin)
+    subst (IsPlaceWithin (2 ^ 61)) (sym c.moved_by-begin.ensures) (within_moved (2 ^ 60) (2 ^ 60) c.args.self.begin c.args.view.now.frame.origin c.requires.begin c.requires.origin)
