@@ -5,3 +5,4 @@ pub mod WalkOfWords
 pub mod Numerals
 pub mod NamedCommands
 pub mod Answering
+pub mod Middles
