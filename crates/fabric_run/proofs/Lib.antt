@@ -6,3 +6,8 @@ pub mod Numerals
 pub mod NamedCommands
 pub mod Answering
 pub mod Middles
+pub mod EachLine
+pub mod Rebuilding
+pub mod Following
+pub mod Zipped
+pub mod LegalSurfaces

@@ -2,7 +2,7 @@
 use Rattle.std.specs.Prelude.{ℕ, List, ◌++◌, codes, map}
 use Rattle.std.specs.List.{flat_map}
 use Rattle.shadow_frame.specs.declared.Size.{Size}
-use Rattle.frame_watch.specs.Changed.{frames_changed}
+use Rattle.frame_watch.specs.Frames.{frames_changed}
 use Rattle.frame_watch.specs.declared.FrameChange.{FrameChange}
 use Rattle.tree_revision.specs.Records.{PlainRecord}
 use Rattle.tree_revision.specs.Script.{PlainScript}
@@ -12,7 +12,7 @@ use Rattle.run_report.specs.Text.{number_line, spaced}
 use Rattle.run_report.specs.TextParts.{line_end, pair_line}
 use Rattle.fabric_run.specs.declared.frames.MountFrames.{MountFrames}
 use Rattle.fabric_run.specs.declared.frames.SurfaceFrames.{SurfaceFrames}
-use Rattle.fabric_run.specs.Query.{frame_text}
+use Rattle.fabric_run.specs.Query.{frame_then}
 use Rattle.fabric_run.specs.Surfaces.{RunSurface, surfaces_of_turns}
 
 -- a mount on a surface of that first size, which has those records: the frames that changed between the revisions that it leads from and to
@@ -31,7 +31,7 @@ frames_of script = map frames_on (surfaces_of_turns script)
 
 -- a frame that changed, by the tag of its view
 abbrev pub change_line : FrameChange → List ℕ
-change_line change = codes "frame" ++ (spaced change.tag ++ (frame_text change.frame ++ line_end))
+change_line change = codes "frame" ++ (spaced change.tag ++ frame_then change.frame line_end)
 
 -- a mount: from which revision to which, and the frames that it changed
 abbrev pub mount_frames_text : MountFrames → List ℕ

@@ -1,5 +1,5 @@
 -- The text of `query`: where the node of a tag is on each surface, and what lies over the middle of it.
-use Rattle.std.specs.Prelude.{ℕ, pos, ◌+ℤ◌, int_div, List, ◌++◌, codes, decimal, length, map, Option, Some, None}
+use Rattle.std.specs.Prelude.{ℕ, ℤ, pos, ◌+ℤ◌, int_div, List, ◌++◌, codes, decimal, length, map, Option, Some, None}
 use Rattle.std.specs.List.{flat_map}
 use Rattle.std.specs.Option.{option_map}
 use Rattle.shadow_frame.specs.declared.Point.{Point}
@@ -17,12 +17,13 @@ use Rattle.fabric_run.specs.declared.query.Finding.{Finding}
 use Rattle.fabric_run.specs.declared.query.Place.{Place}
 use Rattle.fabric_run.specs.Surfaces.{RunSurface, surfaces_of_turns}
 
--- the middle of a rectangle: its origin, moved by half its size, rounded down
+-- the middle of a side that begins there: half of it, rounded down, after the start; no side is below 0
+abbrev pub middle_along : (start side : ℤ) → ℤ
+middle_along start side = start +ℤ int_div side (pos 2)
+
+-- the middle of a rectangle
 abbrev pub middle_of : Rect → Point
-middle_of frame = record {
-  x = frame.origin.x +ℤ int_div frame.size.width (pos 2);
-  y = frame.origin.y +ℤ int_div frame.size.height (pos 2);
-}
+middle_of frame = record { x = middle_along frame.origin.x frame.size.width; y = middle_along frame.origin.y frame.size.height }
 
 -- where the node of a tag is in a forest: its rectangle on the surface, and the topmost view over the middle of it
 abbrev pub place_in : (tag : ℕ) → PlainForest SettledFields → Option Place
@@ -36,9 +37,10 @@ finding_on tag (surface, part) = record { id = surface.id; at = length part.reco
 abbrev pub findings_of : (tag : ℕ) → PlainScript → List Finding
 findings_of tag script = map (finding_on tag) (surfaces_of_turns script)
 
--- an origin and a size
-abbrev pub frame_text : Rect → List ℕ
-frame_text frame = signed_spaced frame.origin.x ++ (signed_spaced frame.origin.y ++ (signed_spaced frame.size.width ++ signed_spaced frame.size.height))
+-- an origin and a size, before a text
+abbrev pub frame_then : Rect → (rest : List ℕ) → List ℕ
+frame_then frame rest =
+    signed_spaced frame.origin.x ++ (signed_spaced frame.origin.y ++ (signed_spaced frame.size.width ++ (signed_spaced frame.size.height ++ rest)))
 
 -- the tag of what was hit, if anything was
 abbrev pub hit_text : Option ℕ → List ℕ
@@ -48,7 +50,7 @@ hit_text (Some tag) = decimal tag
 -- where a node is, to the end of the line; it may be nowhere
 abbrev pub place_text : Option Place → List ℕ
 place_text None = codes " absent\n"
-place_text (Some place) = codes " measure" ++ (frame_text place.frame ++ (codes " hit " ++ (hit_text place.hit ++ line_end)))
+place_text (Some place) = codes " measure" ++ frame_then place.frame (codes " hit " ++ (hit_text place.hit ++ line_end))
 
 -- the line of a surface
 abbrev pub finding_line : Finding → List ℕ

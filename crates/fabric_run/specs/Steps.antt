@@ -1,5 +1,5 @@
 -- What the parts of a command do; each is a part of a definition of `Outcome`, and nothing is promised by them.
-use Rattle.std.specs.Prelude.{◌≡◌, ◌≤◌, List, [], ℕ, Result, Ok, Err, length, map, codes, IfSome}
+use Rattle.std.specs.Prelude.{◌≡◌, ◌≤◌, List, [], ℕ, Result, Ok, Err, map, codes, IfSome}
 use Rattle.std.specs.Borrow.{Bor}
 use Rattle.std.specs.Str.Parse.{IsNumeral, without_leading_plus}
 use Rattle.clap.specs.Simple.{app_of}
@@ -71,7 +71,6 @@ HasMiddles forest = (tag : ℕ) → IfSome (measured forest tag 0) (λ frame. Is
 pub record MayBeRebuilt (first : Size) (entries : List PlainRecord) : Type 0 where
   pub size : IsSizeInRange first
   pub lawful : IsLawful first entries
-  pub count : length entries ≤ 2048
 
 -- mounts that can be followed, on a surface of that first size: over a lawful history each leads on from where the one before it led to, and from no view on the views follow
 pub record MayBeFollowed (first : Size) (part : PlainSurfacePart) : Type 0 where

@@ -177,7 +177,7 @@ impl Text for Frames {
 
     fn write<K: Sink>(&self, out: &mut K) -> Result<(), Failed> {
         write_whole(out, b"frames\n")?;
-        write_surfaces(out, &self.surfaces)?;
+        write_surfaces(out, self.surfaces.as_slice())?;
         write_whole(out, b"end\n")
     }
 }

@@ -1,17 +1,18 @@
 //! The command `query`: a script is read, run by its list of turns, and it is told where a node is.
 
-ghost use Rattle.std.specs.Prelude.{◌≡◌, ◌≤◌, IfOk, map};
+ghost use Rattle.std.specs.Prelude.{◌≡◌, ◌≤◌, ◌<ℤ◌, pos, negsuc, IfOk, map};
 ghost use Rattle.std.specs.List.{flat_map};
 ghost use Rattle.byte_ports.specs.Sinks.{Writes};
 ghost use Rattle.tree_query.specs.Flattening.{IsPointInRange};
+ghost use Rattle.tree_query.specs.Rebuilt.{IsRebuildOf};
 ghost use Rattle.tree_revision.specs.Records.{plain_record};
-ghost use Rattle.tree_revision.specs.Sound.{IsSoundScript, IsWithinCounts};
+ghost use Rattle.tree_revision.specs.Sound.{IsSoundScript};
 ghost use Rattle.script_read.specs.Plain.{plain_script, plain_surface};
 ghost use Rattle.run_report.specs.Journal.{plain_journal, plain_surface_part};
 ghost use Rattle.run_report.specs.Legal.{IsLegal};
 ghost use Rattle.run_report.specs.Pieces.{piece_text};
 ghost use Rattle.fabric_run.specs.Commands.{QueryEnds};
-ghost use Rattle.fabric_run.specs.Query.{finding_line, finding_on, findings_text, hit_text, middle_of, place_in};
+ghost use Rattle.fabric_run.specs.Query.{finding_line, finding_on, findings_text, hit_text, middle_along, middle_of, place_in};
 ghost use Rattle.fabric_run.specs.Steps.{HasMiddles, MayBeRebuilt};
 ghost use Rattle.fabric_run.specs.Surfaces.{surfaces_in};
 ghost use Rattle.fabric_run.specs.Texts.{Tells, status_line};
@@ -59,14 +60,23 @@ struct Query {
     findings: Vec<Finding>,
 }
 
+/// The middle of a side that begins there, rounded down.
+fn middle_along(start: i64, side: i64) -> i64
+    requires low { negsuc 9999999999 <ℤ middle_along start side }
+    requires high { middle_along start side <ℤ pos 10000000000 }
+    ensures { result ≡ middle_along start side }
+{
+    start + side / 2
+}
+
 /// The middle of a node's rectangle, rounded down.
 fn middle_of(frame: Rect) -> Point
     requires { IsPointInRange (middle_of frame) }
     ensures { result ≡ middle_of frame }
 {
     Point {
-        x: frame.origin.x + frame.size.width / 2,
-        y: frame.origin.y + frame.size.height / 2,
+        x: middle_along(frame.origin.x, frame.size.width),
+        y: middle_along(frame.origin.y, frame.size.height),
     }
 }
 
@@ -92,7 +102,7 @@ fn rebuilt(
     records: &[Record],
 ) -> Result<Rebuild, AllocError>
     requires { MayBeRebuilt first (map plain_record records.now) }
-    ensures { IfOk result (λ rebuild. rebuild ≡ record { first = first; entries = map plain_record records.now }) }
+    ensures { IfOk result (λ rebuild. IsRebuildOf first rebuild (map plain_record records.now)) }
 {
     let mut rebuild = Rebuild::start(alloc, first)?;
     for entry in records {
@@ -134,7 +144,6 @@ fn findings_of(
     journal: &Journal,
 ) -> Result<Vec<Finding>, AllocError>
     requires sound { IsSoundScript (plain_script script.now) }
-    requires counts { IsWithinCounts (plain_script script.now) }
     requires legal { IsLegal (plain_script script.now) (plain_journal journal.now) }
     ensures { IfOk result (λ findings. findings.items ≡ map (finding_on tag) (surfaces_in (plain_script script.now) (plain_journal journal.now))) }
 {
@@ -212,7 +221,7 @@ impl Text for Query {
 
     fn write<K: Sink>(&self, out: &mut K) -> Result<(), Failed> {
         write_tag_line(out, b"query", self.tag)?;
-        write_findings(out, &self.findings)?;
+        write_findings(out, self.findings.as_slice())?;
         write_whole(out, b"end\n")
     }
 }
