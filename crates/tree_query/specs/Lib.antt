@@ -1,0 +1,9 @@
+pub mod Bounds
+pub mod Measured
+pub mod Found
+pub mod Topmost
+pub mod Flattening
+pub mod Search
+pub mod Rebuilt
+pub mod LedTo
+pub mod HostLines
