@@ -1,0 +1,4 @@
+pub mod Read
+pub mod Mounted
+pub mod Hearing
+pub mod Telling
