@@ -86,8 +86,8 @@ module _ (first : Size) (entries : List PlainRecord) (lawful : IsLawful first en
       old_tree = lawful_host_tree first (take done.base entries) (front done.base);
       new_tree = lawful_host_tree first (take done.to entries) (front done.to);
       kinds = kinds_between done.base done.to (omega (arith, lead.forward.1));
-      views = lead.are ∙ ap (λ number. registry_of (host_tree_at first entries number)) (sym lead.forward.0);
-      mutations = lead.on.0.mutations;
+      stands = lead.are ∙ ap (λ number. registry_of (host_tree_at first entries number)) (sym lead.forward.0);
+      leads = lead.on.0.mutations;
     }
 
     -- and the others lead on from what it leads to

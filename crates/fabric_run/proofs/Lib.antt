@@ -5,7 +5,7 @@ pub mod WalkOfWords
 pub mod Numerals
 pub mod NamedCommands
 pub mod Answering
-pub mod Middles
+pub mod Halves
 pub mod EachLine
 pub mod Rebuilding
 pub mod Following

@@ -9,12 +9,8 @@ use Rattle.counts.specs.Raised.{HasRisen}
 use Rattle.byte_ports.specs.Sources.{SourceView}
 use Rattle.byte_ports.specs.Sinks.{SinkView}
 use Rattle.shadow_frame.specs.declared.Size.{Size}
-use Rattle.shadow_node.specs.Forest.{PlainForest}
-use Rattle.shadow_node.specs.Fields.{SettledFields}
 use Rattle.tree_settle.specs.Limits.{IsSizeInRange}
 use Rattle.host_views.specs.Registry.{registry_of}
-use Rattle.tree_query.specs.Flattening.{IsPointInRange}
-use Rattle.tree_query.specs.Measured.{measured}
 use Rattle.tree_revision.specs.Lawful.{IsLawful}
 use Rattle.tree_revision.specs.Records.{PlainRecord}
 use Rattle.script_read.specs.Plain.{plain_script}
@@ -26,7 +22,6 @@ use Rattle.fabric_run.specs.declared.status.Status.{Status}
 use Rattle.fabric_run.specs.declared.status.Status.TheVariants.{Done, Refused, Usage, ReadFault, WriteFault, Memory}
 use Rattle.fabric_run.specs.Outcome.{Appends, AppendsPart, ReadsAs, HasFault}
 use Rattle.fabric_run.specs.Commands.{script_reading}
-use Rattle.fabric_run.specs.Query.{middle_of}
 use Rattle.fabric_run.specs.Words.{app_with, command_words, number_in}
 
 -- what reading a script leaves on the source: the script that its bytes are, or the status that the program ends with
@@ -62,10 +57,6 @@ pub record IsSmallNumeral (text : Text) : Type 0 where
 -- so is the text that was found for `number`, where there is one
 abbrev pub HasReadableNumber : List Row → Type 0
 HasReadableNumber rows = IfSome (one_of (codes "number") rows) IsSmallNumeral
-
--- the middle of the rectangle of each node of a forest is a point that may be asked for
-abbrev pub HasMiddles : PlainForest SettledFields → Type 0
-HasMiddles forest = (tag : ℕ) → IfSome (measured forest tag 0) (λ frame. IsPointInRange (middle_of frame))
 
 -- records of which the revisions can be made again, on a surface of that first size
 pub record MayBeRebuilt (first : Size) (entries : List PlainRecord) : Type 0 where

@@ -1,8 +1,9 @@
 //! The command `query`: a script is read, run by its list of turns, and it is told where a node is.
 
-ghost use Rattle.std.specs.Prelude.{◌≡◌, ◌≤◌, ◌<ℤ◌, pos, negsuc, IfOk, map};
+ghost use Rattle.std.specs.Prelude.{◌≡◌, ◌≤◌, ◌≤ℤ◌, ◌+ℤ◌, pos, IfOk, map};
 ghost use Rattle.std.specs.List.{flat_map};
 ghost use Rattle.byte_ports.specs.Sinks.{Writes};
+ghost use Rattle.tree_query.specs.Bounds.{IsPlaceWithin};
 ghost use Rattle.tree_query.specs.Flattening.{IsPointInRange};
 ghost use Rattle.tree_query.specs.Rebuilt.{IsRebuildOf};
 ghost use Rattle.tree_revision.specs.Records.{plain_record};
@@ -13,7 +14,7 @@ ghost use Rattle.run_report.specs.Legal.{IsLegal};
 ghost use Rattle.run_report.specs.Pieces.{piece_text};
 ghost use Rattle.fabric_run.specs.Commands.{QueryEnds};
 ghost use Rattle.fabric_run.specs.Query.{finding_line, finding_on, findings_text, hit_text, middle_along, middle_of, place_in};
-ghost use Rattle.fabric_run.specs.Steps.{HasMiddles, MayBeRebuilt};
+ghost use Rattle.fabric_run.specs.Steps.{MayBeRebuilt};
 ghost use Rattle.fabric_run.specs.Surfaces.{surfaces_in};
 ghost use Rattle.fabric_run.specs.Texts.{Tells, status_line};
 
@@ -61,18 +62,22 @@ struct Query {
 }
 
 /// The middle of a side that begins there, rounded down.
+#[tactic(auto, using(crate::proofs::Halves::half_within))]
 fn middle_along(start: i64, side: i64) -> i64
-    requires low { negsuc 9999999999 <ℤ middle_along start side }
-    requires high { middle_along start side <ℤ pos 10000000000 }
-    ensures { result ≡ middle_along start side }
+    requires low { pos 0 ≤ℤ (start +ℤ pos 5040000000) }
+    requires high { start ≤ℤ pos 5040000000 }
+    ensures middle { result ≡ middle_along start side }
+    ensures low { pos 0 ≤ℤ (result +ℤ pos 5000000000000000000) }
+    ensures high { result ≤ℤ pos 5000000000000000000 }
 {
     start + side / 2
 }
 
 /// The middle of a node's rectangle, rounded down.
 fn middle_of(frame: Rect) -> Point
-    requires { IsPointInRange (middle_of frame) }
-    ensures { result ≡ middle_of frame }
+    requires { IsPlaceWithin 5040000000 frame.origin }
+    ensures middle { result ≡ middle_of frame }
+    ensures range { IsPointInRange result }
 {
     Point {
         x: middle_along(frame.origin.x, frame.size.width),
@@ -82,7 +87,6 @@ fn middle_of(frame: Rect) -> Point
 
 /// Where the node of a tag is in a revision, if it is mounted there.
 fn place_in(alloc: Global, tag: u32, revision: &Revision) -> Result<Option<Place>, AllocError>
-    requires { HasMiddles revision.now.newest.forest }
     ensures { IfOk result (λ place. place ≡ place_in tag revision.now.newest.forest) }
 {
     let forest = revision.forest();
