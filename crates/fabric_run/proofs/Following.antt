@@ -1,17 +1,16 @@
 -- The mounts of a lawful history, followed one after another.
-use Rattle.std.proofs.Common.{◌≡◌, ◌∙◌, ◌≤◌, ◌<◌, ◌+◌, ◌++◌, inl, inr, ℕ, List, [], ◌∷◌, length, map, take, drop, get_or, cond, nat_eq, Some, arith, refl, sym, ap, subst, drop-cons, add-one}
+use Rattle.std.proofs.Common.{◌≡◌, ◌∙◌, ◌≤◌, ◌++◌, inl, inr, ℕ, List, [], ◌∷◌, map, take, drop, cond, nat_eq, Some, arith, sym, ap, subst}
 use Rattle.std.specs.List.{AllByRecursion}
 use Rattle.std.proofs.lemmas.Bool.{cases_Bool, eqb-true}
 use Rattle.std.proofs.lemmas.List.{take-append-drop}
 use Rattle.std.proofs.lemmas.Option.{same_Some}
 use Rattle.std.proofs.Math.Seq.{take-take}
 use Rattle.shadow_frame.specs.declared.Size.{Size}
-use Rattle.shadow_node.specs.Fields.{contents_of}
 use Rattle.shadow_node.specs.Forest.{preorder}
 use Rattle.tree_settle.proofs.Settled.{contents_of-settled}
 use Rattle.host_views.specs.declared.HostView.{HostView}
 use Rattle.host_views.specs.Plain.{PlainHostTree}
-use Rattle.host_views.specs.Registry.{PlainRegistry, registry_of, mutated}
+use Rattle.host_views.specs.Registry.{PlainRegistry, registry_of}
 use Rattle.view_flatten.specs.HostTree.{host_tree_of}
 use Rattle.view_flatten.proofs.Views.{each_kind}
 use Rattle.view_mutation.specs.Leads.{HaveOneKind}

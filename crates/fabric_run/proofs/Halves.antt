@@ -1,5 +1,5 @@
 -- Half of a number of 64 bits.
-use Rattle.std.proofs.Common.{◌≡◌, ◌≤◌, ◌<◌, ◌^◌, ◌/◌, ◌≤ℤ◌, ◌+ℤ◌, ℕ, ℤ, pos, negsuc, suc, arith, w64}
+use Rattle.std.proofs.Common.{◌≤ℤ◌, ◌+ℤ◌, ℤ, pos, negsuc, arith, w64}
 use Rattle.std.specs.Prelude.{int_div, FitsSigned}
 use Rattle.std.proofs.lemmas.Int.{ints}
 

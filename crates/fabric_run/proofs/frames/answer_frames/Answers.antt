@@ -1,7 +1,5 @@
 use Rattle.std.proofs.Common.{map, subst, sym, ap, ◌∙◌}
 use Rattle.script_read.specs.Plain.{plain_script}
-use Rattle.run_report.specs.Journal.{plain_journal}
-use Rattle.run_report.specs.Machine.{journal_of_turns}
 use Rattle.run_report.specs.Legal.{IsLegal}
 use Rattle.fabric_run.specs.Commands.{script_reading, AreFramesOfTurns}
 use Rattle.fabric_run.specs.Frames.{all_frames_text, frames_on}

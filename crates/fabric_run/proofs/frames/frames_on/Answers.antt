@@ -1,7 +1,7 @@
 use Rattle.std.proofs.Common.{◌≡◌, ◌+◌, ◌++◌, ◌∷◌, [], ◌∙◌, ap, drop, map, rules, subst, sym}
 use Rattle.host_views.specs.Plain.{plain_mutation}
 use Rattle.tree_revision.specs.Records.{plain_record}
-use Rattle.run_report.specs.Journal.{PlainMount, plain_mount}
+use Rattle.run_report.specs.Journal.{plain_mount}
 use Rattle.mount_coordinator.specs.Mounted.{host_tree_at}
 use Rattle.frame_watch.specs.Mounts.{IsMount}
 use Rattle.fabric_run.specs.declared.frames.MountFrames.{MountFrames}

@@ -1,5 +1,5 @@
 use Rattle.std.proofs.Common.{rules}
-use Rattle.fabric_run.proofs.Rebuilding.{all_pushed, next_follows, next_held, next_pushed}
+use Rattle.fabric_run.proofs.Rebuilding.{next_follows, next_held, next_pushed}
 use Rattle.fabric_run.proofs.query.rebuilt.Goals as goal
 
 pub push-requires-clause-op : goal.push-requires-clause-op
