@@ -1,5 +1,5 @@
 -- The host ancestors of a view, as they are found among the views before it, are those of its node.
-use Rattle.std.proofs.Common.{◌≡◌, ◌⊎◌, ◌≤◌, ℕ, zero, suc, List, [], ◌∷◌, ◌++◌, Bool, true, false, cond, ◌||◌, length, map, filter, nat_eq, refl, ap, sym, ◌∙◌, subst, inl, inr, arith}
+use Rattle.std.proofs.Common.{◌≡◌, ◌⊎◌, ◌≤◌, ℕ, zero, suc, List, [], ◌∷◌, ◌++◌, Bool, true, false, cond, ◌||◌, length, nat_eq, refl, ap, sym, ◌∙◌, subst, inl, inr, arith}
 use Rattle.std.proofs.lemmas.Bool.{eq-eqb, eqb-true, ne_eqb, or_cases, or_left, or_right}
 use Rattle.std.specs.List.{AllByRecursion, IsDistinct, flat_map}
 use Rattle.std.specs.Prelude.{Contains}
@@ -17,7 +17,7 @@ use Rattle.view_flatten.proofs.Order.{each_kept, tag_at, tags_at}
 use Rattle.view_flatten.proofs.Shorthands.{has_view}
 use Rattle.view_flatten.proofs.Viewed.{IsIn, contained, each_in}
 use Rattle.view_flatten.proofs.Views.{each_placed_view}
-use Rattle.tree_query.specs.HostLines.{HasLineOfNode, HaveLinesOfNodes, tags_of_contexts}
+use Rattle.tree_query.specs.HostLines.{HaveLinesOfNodes, tags_of_contexts}
 use Rattle.tree_query.specs.Topmost.{host_line}
 
 -- a tag is that of the root, or of one of some views

@@ -1,17 +1,17 @@
 -- The views of a flattening begin near enough to the surface's corner.
-use Rattle.std.proofs.Common.{◌≡◌, ◌+◌, ◌*◌, ◌<◌, ◌≤◌, ℕ, zero, suc, List, [], ◌∷◌, length, get_or, map, Bool, true, false, cond, nat_eq, ap, sym, subst, arith, refl}
+use Rattle.std.proofs.Common.{◌≡◌, ◌+◌, ◌*◌, ◌<◌, ◌≤◌, ℕ, zero, suc, List, [], ◌∷◌, length, get_or, map, true, false, cond, nat_eq, sym, subst, arith}
 use Rattle.std.proofs.lemmas.Int.{ints}
 use Rattle.std.specs.List.{AllByRecursion}
-use Rattle.std.specs.Prelude.{pos, negsuc, ◌+ℤ◌, ◌≤ℤ◌}
+use Rattle.std.specs.Prelude.{pos}
 use Rattle.shadow_frame.specs.declared.Point.{Point}
 use Rattle.shadow_frame.specs.declared.Rect.{Rect}
 use Rattle.shadow_node.specs.Fields.{SettledFields}
 use Rattle.shadow_node.specs.Forest.{PlainForest, none, node, depth_of}
-use Rattle.shadow_node.specs.Shown.{Descendant, descendants, descendants_below}
-use Rattle.tree_settle.specs.Limits.{AreFramesInBounds, IsForestInLimits, IsFrameInBounds}
+use Rattle.shadow_node.specs.Shown.{descendants_below}
+use Rattle.tree_settle.specs.Limits.{AreFramesInBounds, IsFrameInBounds}
 use Rattle.host_views.specs.declared.PlacedView.{PlacedView}
-use Rattle.host_views.specs.Plain.{PlainPlacedView, PlainHostTree, plain_placed, plain_tree}
-use Rattle.view_flatten.specs.HostTree.{host_origin, host_tree_of, moved, view_of}
+use Rattle.host_views.specs.Plain.{PlainPlacedView, PlainHostTree, plain_placed}
+use Rattle.view_flatten.specs.HostTree.{host_origin, moved}
 use Rattle.view_flatten.proofs.Distinct.{each_in_both}
 use Rattle.view_flatten.proofs.Shorthands.{is_context}
 use Rattle.view_flatten.proofs.Views.{each_view}

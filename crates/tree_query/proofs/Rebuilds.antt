@@ -10,7 +10,7 @@ use Rattle.std.specs.Result.{result_err}
 use Rattle.shadow_frame.specs.declared.Size.{Size}
 use Rattle.tree_revision.specs.Records.{PlainOp, PlainRecord}
 use Rattle.tree_revision.specs.Cancels.{cancel_of}
-use Rattle.tree_revision.specs.Lawful.{IsLawful, MayAllFollow, MayFollow}
+use Rattle.tree_revision.specs.Lawful.{MayAllFollow, MayFollow}
 use Rattle.tree_revision.specs.OneMore.{IsCancelledFor, StandsForOneMore}
 use Rattle.tree_revision.specs.Settled.{KeptRevision}
 use Rattle.tree_revision.specs.Stands.{StandsFor}
@@ -18,7 +18,7 @@ use Rattle.tree_revision.specs.declared.record.Cancel.{Cancel}
 use Rattle.tree_revision.specs.declared.next.PrepareRefusal.{PrepareRefusal}
 use Rattle.tree_revision.specs.declared.next.PrepareRefusal.TheVariants.{Cancel as CancelRefusal}
 use Rattle.tree_query.specs.LedTo.{IsNextAfter, LeadsTo}
-use Rattle.tree_query.specs.Rebuilt.{PlainRebuild, IsCauseAt, IsRebuild, IsRebuildOf, last_number}
+use Rattle.tree_query.specs.Rebuilt.{PlainRebuild, IsCauseAt, IsRebuildOf, last_number}
 
 -- the first of some first elements are the first elements
 taken : {A : Type 0} (less more : ℕ) (xs : List A) → less ≤ more → take less (take more xs) ≡ take less xs

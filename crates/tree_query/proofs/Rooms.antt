@@ -1,5 +1,5 @@
 -- Places that so many levels do not lead out of bounds.
-use Rattle.std.proofs.Common.{◌≡◌, ◌+◌, ◌≤◌, ◌<◌, ℕ, List, [], length, get_or, drop, Bool, true, false, cond, Option, Some, None, nat_eq, ap, sym, subst, arith}
+use Rattle.std.proofs.Common.{◌≡◌, ◌+◌, ◌≤◌, ◌<◌, ℕ, List, [], length, get_or, drop, true, false, cond, Option, Some, None, nat_eq, ap, subst, arith}
 use Rattle.std.proofs.lemmas.Int.{ints}
 use Rattle.std.specs.Prelude.{pos}
 use Rattle.std.specs.Option.{option_map}

@@ -1,5 +1,5 @@
 -- Which view of a host tree lies on top at a point of the surface.
-use Rattle.std.specs.Prelude.{ℕ, ℤ, pos, ◌+ℤ◌, List, [], ◌∷◌, reverse, Bool, true, not, ◌&&◌, ◌||◌, nat_eq, int_le, int_lt, if◌then◌else◌, Option, Some, None}
+use Rattle.std.specs.Prelude.{ℕ, ℤ, pos, ◌+ℤ◌, [], ◌∷◌, reverse, Bool, true, not, ◌&&◌, ◌||◌, nat_eq, int_le, int_lt, if◌then◌else◌, Option, Some, None}
 use Rattle.shadow_frame.specs.declared.Point.{Point}
 use Rattle.shadow_frame.specs.declared.Size.{Size}
 use Rattle.prop_table.specs.Props.{PropList, value_at}

@@ -1,7 +1,7 @@
 use Rattle.std.proofs.Common.{◌≡◌, ◌∷◌, [], ◌++◌, None, Some, ap, refl, sym, subst, ◌∙◌}
-use Rattle.tree_revision.specs.Records.{PlainOp, PlainRecord, plain_op, plain_record}
+use Rattle.tree_revision.specs.Records.{plain_op, plain_record}
 use Rattle.tree_query.specs.LedTo.{IsNextAfter, LeadsTo}
-use Rattle.tree_query.specs.Rebuilt.{IsCauseAt, IsRebuild, IsRebuildOf, last_number}
+use Rattle.tree_query.specs.Rebuilt.{IsCauseAt, IsRebuildOf, last_number}
 use Rattle.tree_query.proofs.Rebuilds.{cause_after_all, grown_by, no_cause}
 use Rattle.tree_query.proofs.rebuild.Rebuild.push.Goals as goal
 

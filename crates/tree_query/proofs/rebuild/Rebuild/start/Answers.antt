@@ -1,5 +1,5 @@
 use Rattle.std.proofs.Common.{◌≡◌, ◌∷◌, [], ◌++◌, ap, sym, subst, ◌∙◌}
-use Rattle.tree_query.specs.Rebuilt.{IsRebuild, IsRebuildOf}
+use Rattle.tree_query.specs.Rebuilt.{IsRebuildOf}
 use Rattle.tree_query.proofs.Rebuilds.{begun}
 use Rattle.tree_query.proofs.rebuild.Rebuild.start.Goals as goal
 
