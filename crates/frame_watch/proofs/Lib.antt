@@ -2,3 +2,4 @@ pub mod Read
 pub mod Mounted
 pub mod Hearing
 pub mod Telling
+pub mod SmallMounts

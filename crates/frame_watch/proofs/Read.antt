@@ -1,9 +1,9 @@
 -- The frames that are read off the mutations between two host trees are those that differ.
-use Rattle.std.proofs.Common.{◌≡◌, ℕ, List, [], ◌∷◌, ◌++◌, ◌<◌, ◌+◌, length, take, get_or, map, Bool, true, false, not, append-nil, add-one, refl, ap, sym, ◌∙◌}
+use Rattle.std.proofs.Common.{◌≡◌, ℕ, List, [], ◌∷◌, ◌++◌, ◌<◌, ◌≤◌, ◌+◌, length, take, get_or, map, Bool, true, false, not, append-nil, add-one, refl, ap, sym, ◌∙◌}
 use Rattle.std.specs.Prelude.{Option, Some, None, filter, drop, ◌&&◌}
 use Rattle.std.specs.List.{flat_map, cons_option}
 use Rattle.std.specs.Option.{option_map}
-use Rattle.std.proofs.lemmas.List.{map-append}
+use Rattle.std.proofs.lemmas.List.{map-append, take_all}
 use Rattle.std.proofs.lemmas.List.Elements.{filter_map-append}
 use Rattle.std.proofs.Math.Seq.{take-suc}
 use Rattle.host_views.specs.declared.HostView.{HostView}
@@ -19,43 +19,43 @@ use Rattle.view_mutation.proofs.Whole.{tree_shows}
 use Rattle.frame_watch.specs.declared.FrameChange.{FrameChange}
 use Rattle.frame_watch.specs.Frames.{frame_at, is_other_frame, frames_changed}
 use Rattle.frame_watch.specs.Mounts.{IsMount}
-use Rattle.frame_watch.specs.Reading.{view_in, change_by, changes_by}
+use Rattle.frame_watch.specs.Reading.{view_in, frame_by, frames_by}
 
 -- removes of a parent's children change no frame
-removes_silent : (registry : PlainRegistry) (parent index : ℕ) (tags : List ℕ) → changes_by registry (removes_from parent index tags) ≡ []
+removes_silent : (registry : PlainRegistry) (parent index : ℕ) (tags : List ℕ) → frames_by registry (removes_from parent index tags) ≡ []
 removes_silent registry parent index [] = refl
 removes_silent registry parent index (tag ∷ tags) =
-    filter_map-append (change_by registry) (removes_from parent (index + 1) tags) (remove parent tag index ∷ [])
+    filter_map-append (frame_by registry) (removes_from parent (index + 1) tags) (remove parent tag index ∷ [])
     ∙ ap (λ changes. changes ++ []) (removes_silent registry parent (index + 1) tags)
 
 -- nor do inserts
-inserts_silent : (registry : PlainRegistry) (parent index : ℕ) (tags : List ℕ) → changes_by registry (inserts_from parent index tags) ≡ []
+inserts_silent : (registry : PlainRegistry) (parent index : ℕ) (tags : List ℕ) → frames_by registry (inserts_from parent index tags) ≡ []
 inserts_silent registry parent index [] = refl
 inserts_silent registry parent index (tag ∷ tags) = inserts_silent registry parent (index + 1) tags
 
 -- what changes no frame at each of some parents changes none at all of them
-each_silent : (registry : PlainRegistry) (at : ℕ → List PlainMutation) → ((parent : ℕ) → changes_by registry (at parent) ≡ [])
-    → (parents : List ℕ) → changes_by registry (flat_map at parents) ≡ []
+each_silent : (registry : PlainRegistry) (at : ℕ → List PlainMutation) → ((parent : ℕ) → frames_by registry (at parent) ≡ [])
+    → (parents : List ℕ) → frames_by registry (flat_map at parents) ≡ []
 each_silent registry at none [] = refl
 each_silent registry at none (parent ∷ parents) =
-    filter_map-append (change_by registry) (at parent) (flat_map at parents)
-    ∙ ap (λ changes. changes ++ changes_by registry (flat_map at parents)) (none parent)
+    filter_map-append (frame_by registry) (at parent) (flat_map at parents)
+    ∙ ap (λ changes. changes ++ frames_by registry (flat_map at parents)) (none parent)
     ∙ each_silent registry at none parents
 
 -- nor do deletes
 deletes_silent : (registry : PlainRegistry) (test : PlainPlacedView → Bool) (tree : PlainHostTree)
-    → changes_by registry (map (λ placed. delete placed.tag) (filter test tree)) ≡ []
+    → frames_by registry (map (λ placed. delete placed.tag) (filter test tree)) ≡ []
 deletes_silent registry test [] = refl
 deletes_silent registry test (placed ∷ tree) = by (test placed) refl (deletes_silent registry test tree)
   where
-    by : (b : Bool) → test placed ≡ b → changes_by registry (map (λ placed. delete placed.tag) (filter test tree)) ≡ []
-        → changes_by registry (map (λ placed. delete placed.tag) (filter test (placed ∷ tree))) ≡ []
+    by : (b : Bool) → test placed ≡ b → frames_by registry (map (λ placed. delete placed.tag) (filter test tree)) ≡ []
+        → frames_by registry (map (λ placed. delete placed.tag) (filter test (placed ∷ tree))) ≡ []
     by true e rest = rw e rest
     by false e rest = rw e rest
 
 -- each create is a change
 creates_read : (registry : PlainRegistry) (tree : PlainHostTree)
-    → changes_by registry (map (λ placed. create placed.tag placed.view) tree) ≡ map frame_at tree
+    → frames_by registry (map (λ placed. create placed.tag placed.view) tree) ≡ map frame_at tree
 creates_read registry [] = refl
 creates_read registry (placed ∷ tree) = ap (λ changes. frame_at placed ∷ changes) (creates_read registry tree)
 
@@ -72,16 +72,16 @@ other_by_frame (Some was) view e = last_differs _ (is_same_frame was.frame view.
 
 -- each update to another frame is a change, and no other one
 updates_read : (registry : PlainRegistry) (known : ℕ → Option HostView) → ((tag : ℕ) → view_in registry tag ≡ known tag) → (tree : PlainHostTree)
-    → changes_by registry (map (λ placed. update placed.tag placed.view) (filter (λ placed. is_other_view (known placed.tag) placed.view) tree))
+    → frames_by registry (map (λ placed. update placed.tag placed.view) (filter (λ placed. is_other_view (known placed.tag) placed.view) tree))
     ≡ map frame_at (filter (λ placed. is_other_frame (known placed.tag) placed.view.frame) tree)
 updates_read registry known same [] = refl
 updates_read registry known same (placed ∷ tree) =
     by (is_other_view (known placed.tag) placed.view) (is_other_frame (known placed.tag) placed.view.frame) refl refl (updates_read registry known same tree)
   where
     by : (v f : Bool) → is_other_view (known placed.tag) placed.view ≡ v → is_other_frame (known placed.tag) placed.view.frame ≡ f
-        → changes_by registry (map (λ placed. update placed.tag placed.view) (filter (λ placed. is_other_view (known placed.tag) placed.view) tree))
+        → frames_by registry (map (λ placed. update placed.tag placed.view) (filter (λ placed. is_other_view (known placed.tag) placed.view) tree))
         ≡ map frame_at (filter (λ placed. is_other_frame (known placed.tag) placed.view.frame) tree)
-        → changes_by registry (map (λ placed. update placed.tag placed.view) (filter (λ placed. is_other_view (known placed.tag) placed.view) (placed ∷ tree)))
+        → frames_by registry (map (λ placed. update placed.tag placed.view) (filter (λ placed. is_other_view (known placed.tag) placed.view) (placed ∷ tree)))
         ≡ map frame_at (filter (λ placed. is_other_frame (known placed.tag) placed.view.frame) (placed ∷ tree))
     by true true e g rest = rw (e, g, same placed.tag, g) (ap (λ changes. frame_at placed ∷ changes) rest)
     by true false e g rest = rw (e, g, same placed.tag, g) rest
@@ -98,11 +98,11 @@ views_known tree h tag = ap (option_map (λ shown. shown.view)) ((tree_shows tre
 
 -- two parts that were read
 read_both : (registry : PlainRegistry) (xs ys : List PlainMutation) (here there : List FrameChange)
-    → changes_by registry xs ≡ here → changes_by registry ys ≡ there → changes_by registry (xs ++ ys) ≡ here ++ there
-read_both registry xs ys here there e f = filter_map-append (change_by registry) xs ys ∙ (λ i. e i ++ f i)
+    → frames_by registry xs ≡ here → frames_by registry ys ≡ there → frames_by registry (xs ++ ys) ≡ here ++ there
+read_both registry xs ys here there e f = filter_map-append (frame_by registry) xs ys ∙ (λ i. e i ++ f i)
 
 -- what is read off the mutations from one host tree to another
-pub frames_read : (old new : PlainHostTree) → IsHostTree old → changes_by (registry_of old) (mutations_between old new) ≡ frames_changed old new
+frames_read : (old new : PlainHostTree) → IsHostTree old → frames_by (registry_of old) (mutations_between old new) ≡ frames_changed old new
 frames_read old new h =
     let registry = registry_of old in
     let gone = flat_map (removes_at old new) (host_parents old) in
@@ -117,27 +117,33 @@ frames_read old new h =
     read_both registry (gone ++ deletes old new ++ creates old new ++ updates old new) come (created ++ moved) [] to_updates inserted ∙ append-nil (created ++ moved)
 
 -- what is read off the mutations of a mount
-pub mount_read : (registry : PlainRegistry) (list : List PlainMutation) (old new : PlainHostTree) → IsMount registry list old new
-    → changes_by registry list ≡ frames_changed old new
-mount_read registry list old new mount = (λ i. changes_by (mount.stands i) (mount.leads i)) ∙ frames_read old new mount.old_tree
+mount_read : (registry : PlainRegistry) (list : List PlainMutation) (old new : PlainHostTree) → IsMount registry list old new
+    → frames_by registry list ≡ frames_changed old new
+mount_read registry list old new mount = (λ i. frames_by (mount.stands i) (mount.leads i)) ∙ frames_read old new mount.old_tree
 
 -- what is read off the first mutations
 abbrev pub read_upto : PlainRegistry → List Mutation → ℕ → List FrameChange
-read_upto registry list i = changes_by registry (map plain_mutation (take i list))
+read_upto registry list i = frames_by registry (map plain_mutation (take i list))
 
 -- and off one more
 more_read : (registry : PlainRegistry) (list : List Mutation) (i : ℕ) (mutation : Mutation) → i < length list
     → read_upto registry list (i + 1)
-    ≡ read_upto registry list i ++ cons_option (change_by registry (plain_mutation (get_or list i mutation))) []
+    ≡ read_upto registry list i ++ cons_option (frame_by registry (plain_mutation (get_or list i mutation))) []
 more_read registry list i mutation below =
-    ap (λ taken. changes_by registry (map plain_mutation taken)) (ap (λ n. take n list) (add-one i) ∙ take-suc list i mutation below)
-    ∙ ap (changes_by registry) (map-append plain_mutation (take i list) (get_or list i mutation ∷ []))
-    ∙ filter_map-append (change_by registry) (map plain_mutation (take i list)) (plain_mutation (get_or list i mutation) ∷ [])
+    ap (λ taken. frames_by registry (map plain_mutation taken)) (ap (λ n. take n list) (add-one i) ∙ take-suc list i mutation below)
+    ∙ ap (frames_by registry) (map-append plain_mutation (take i list) (get_or list i mutation ∷ []))
+    ∙ filter_map-append (frame_by registry) (map plain_mutation (take i list)) (plain_mutation (get_or list i mutation) ∷ [])
 
 -- one more mutation was read
 pub one_read : (registry : PlainRegistry) (list : List Mutation) (i : ℕ) (mutation : Mutation) (change : Option FrameChange) (before after : List FrameChange)
-    → i < length list → mutation ≡ get_or list i mutation → change ≡ change_by registry (plain_mutation mutation)
+    → i < length list → mutation ≡ get_or list i mutation → change ≡ frame_by registry (plain_mutation mutation)
     → before ≡ read_upto registry list i → after ≡ before ++ cons_option change [] → after ≡ read_upto registry list (i + 1)
 one_read registry list i mutation change before after below item read so_far added =
-    added ∙ (λ j. so_far j ++ cons_option ((read ∙ ap (λ m. change_by registry (plain_mutation m)) item) j) [])
+    added ∙ (λ j. so_far j ++ cons_option ((read ∙ ap (λ m. frame_by registry (plain_mutation m)) item) j) [])
     ∙ sym (more_read registry list i mutation below)
+
+-- all mutations of a mount were read
+pub all_read : (registry : PlainRegistry) (list : List Mutation) (i : ℕ) (found : List FrameChange) (old new : PlainHostTree) → length list ≤ i
+    → found ≡ read_upto registry list i → IsMount registry (map plain_mutation list) old new → found ≡ frames_changed old new
+all_read registry list i found old new most read mount =
+    read ∙ ap (λ taken. frames_by registry (map plain_mutation taken)) (take_all i list most) ∙ mount_read registry (map plain_mutation list) old new mount

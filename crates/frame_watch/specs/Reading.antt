@@ -14,14 +14,14 @@ abbrev pub view_in : PlainRegistry → ℕ → Option HostView
 view_in registry tag = option_map (λ shown. shown.view) (get registry.views tag)
 
 -- what a mutation changes of frames: a create the new view's, an update the view's where the registry has another one, and others none
-abbrev pub change_by : PlainRegistry → PlainMutation → Option FrameChange
-change_by registry (create tag view) = Some (record { tag = tag; frame = view.frame })
-change_by registry (update tag view) =
+abbrev pub frame_by : PlainRegistry → PlainMutation → Option FrameChange
+frame_by registry (create tag view) = Some (record { tag = tag; frame = view.frame })
+frame_by registry (update tag view) =
     if is_other_frame (view_in registry tag) view.frame then Some (record { tag = tag; frame = view.frame }) else None
-change_by registry (delete tag) = None
-change_by registry (insert parent tag index) = None
-change_by registry (remove parent tag index) = None
+frame_by registry (delete tag) = None
+frame_by registry (insert parent tag index) = None
+frame_by registry (remove parent tag index) = None
 
 -- the same of each mutation, in their order
-abbrev pub changes_by : PlainRegistry → List PlainMutation → List FrameChange
-changes_by registry list = filter_map (change_by registry) list
+abbrev pub frames_by : PlainRegistry → List PlainMutation → List FrameChange
+frames_by registry list = filter_map (frame_by registry) list

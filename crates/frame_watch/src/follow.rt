@@ -45,9 +45,11 @@ impl Follow {
     /// Where there is no memory, nothing is changed.
     pub fn mount(&mut self, list: &[Mutation]) -> Result<Vec<FrameChange>, AllocError>
         requires { MayMount self.old (map plain_mutation list.now) }
-        ensures changes { (old new : PlainHostTree) → IsMount self.old (map plain_mutation list.now) old new
+        ensures changes { (old new : PlainHostTree)
+            → IsMount self.old (map plain_mutation list.now) old new
             → IfOk result (λ changes. changes.items ≡ frames_changed old new) }
-        ensures mounted { (old new : PlainHostTree) → IsMount self.old (map plain_mutation list.now) old new
+        ensures mounted { (old new : PlainHostTree)
+            → IsMount self.old (map plain_mutation list.now) old new
             → OnOk result (self.new ≡ registry_of new) }
         ensures stays { OnErr result (self.new ≡ self.old) }
     {

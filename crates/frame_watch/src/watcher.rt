@@ -80,7 +80,8 @@ impl Watcher for MemoryWatcher {
     fn changed(&mut self, surface: u32, to: u64, change: &FrameChange) -> Result<(), AllocError>
         ensures told { Hears (record { surface = surface; to = to; change = change.now })
             (watcher_view_of self.old) (watcher_view_of self.new) result }
-        ensures exact { Keeps (record { surface = surface; to = to; change = change.now }) self.old self.new result }
+        ensures exact { Keeps (record { surface = surface; to = to; change = change.now })
+            self.old self.new result }
     {
         let entry = Heard {
             surface,
@@ -98,7 +99,8 @@ impl Watcher for MemoryWatcher {
 /// Tells each watcher of each change, in their order, on that surface, after the mount of the
 /// revision of that number.
 ///
-/// After a refusal, where the count of one of the watchers rose, each heard the first of the changes.
+/// After a refusal, which comes only where the count of one of the watchers rose, each heard the
+/// first of the changes, none or all perhaps. Nothing is allocated here.
 pub fn tell(
     watchers: &mut Vec<Box<dyn Watcher>>,
     surface: u32,
@@ -121,7 +123,8 @@ fn tell_one(
     to: u64,
     list: &[FrameChange],
 ) -> Result<(), AllocError>
-    ensures { HearsEach (entries_of surface to list.now) (watcher_view watcher.old) (watcher_view watcher.new) result }
+    ensures { HearsEach (entries_of surface to list.now)
+        (watcher_view watcher.old) (watcher_view watcher.new) result }
 {
     for change in list {
         tell_change(watcher, surface, to, change)?;

@@ -1,7 +1,0 @@
-use Rattle.std.proofs.Common.{◌≡◌, map, take}
-use Rattle.host_views.specs.Plain.{plain_mutation}
-use Rattle.frame_watch.specs.Reading.{changes_by}
-use Rattle.frame_watch.proofs.changes_read.Given as goal
-
-abbrev pub invariant-loop-mutation : goal.invariant-loop-mutation
-invariant-loop-mutation l = l.changes.items ≡ changes_by l.registry (map plain_mutation (take l.mutation-index l.list))
