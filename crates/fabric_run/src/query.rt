@@ -110,6 +110,7 @@ fn rebuilt(
 {
     let mut rebuild = Rebuild::start(alloc, first)?;
     for entry in records {
+        // Nothing cancels a record of a lawful history.
         let _none = rebuild.push(made, entry)?;
     }
     Ok(rebuild)
