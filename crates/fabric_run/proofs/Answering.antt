@@ -6,10 +6,10 @@ use Rattle.byte_ports.specs.Sinks.{SinkView}
 use Rattle.fabric_run.specs.declared.status.Status.{Status}
 use Rattle.fabric_run.specs.declared.status.Status.TheVariants.{Usage, Memory}
 use Rattle.fabric_run.specs.declared.words.Command.{Command}
-use Rattle.fabric_run.specs.declared.words.Command.TheVariants.{Turns, Run, Make, Sweep}
+use Rattle.fabric_run.specs.declared.words.Command.TheVariants.{Turns, Run, Make, Sweep, Query, Frames}
 use Rattle.fabric_run.specs.Words.{command_in}
 use Rattle.fabric_run.specs.Commands.{CommandEnds, IsUsageOrMemory, AnswersWords}
-use Rattle.fabric_run.proofs.NamedCommands.{turns_named, run_named, make_named, sweep_named}
+use Rattle.fabric_run.proofs.NamedCommands.{turns_named, run_named, make_named, sweep_named, query_named, frames_named}
 
 module _ (words : List (List ℕ)) (old new : SourceView) (out_old out_new : SinkView) where
   -- no command ends in `Usage`
@@ -18,6 +18,8 @@ module _ (words : List (List ℕ)) (old new : SourceView) (out_old out_new : Sin
   never_usage Run ends = ends.leaves
   never_usage (Make number) ends = ends.0.leaves
   never_usage (Sweep number) ends = ends.0.leaves
+  never_usage (Query number) ends = ends.leaves
+  never_usage Frames ends = ends.leaves
 
   -- where the words name a command, it is what the program does
   pub answers_named : (command : Command) (status : Status) → command_in words ≡ Some command → CommandEnds command old new out_old out_new status → AnswersWords words old new out_old out_new status
@@ -29,6 +31,8 @@ module _ (words : List (List ℕ)) (old new : SourceView) (out_old out_new : Sin
     run = λ e. other Run (ap command_in e ∙ run_named);
     make = λ number small e. other (Make number) (ap command_in e ∙ make_named number small);
     sweep = λ number small e. other (Sweep number) (ap command_in e ∙ sweep_named number small);
+    query = λ number small e. other (Query number) (ap command_in e ∙ query_named number small);
+    frames = λ e. other Frames (ap command_in e ∙ frames_named);
   }
     where
       some_none : Some command ≡ None → ⊥
@@ -48,6 +52,8 @@ module _ (words : List (List ℕ)) (source : SourceView) (out : SinkView) where
     run = λ e. absurd (none_some Run (ap command_in e ∙ run_named));
     make = λ number small e. absurd (none_some (Make number) (ap command_in e ∙ make_named number small));
     sweep = λ number small e. absurd (none_some (Sweep number) (ap command_in e ∙ sweep_named number small));
+    query = λ number small e. absurd (none_some (Query number) (ap command_in e ∙ query_named number small));
+    frames = λ e. absurd (none_some Frames (ap command_in e ∙ frames_named));
   }
     where
       none_some : (command : Command) → command_in words ≡ Some command → ⊥
@@ -59,6 +65,8 @@ module _ (words : List (List ℕ)) (source : SourceView) (out : SinkView) where
   ends_at_once Run = record { leaves = refl; complete = λ bytes script told reads a b. tt; refused = λ bytes fault told reads a. tt }
   ends_at_once (Make number) = (record { leaves = refl; complete = λ a. tt }, refl)
   ends_at_once (Sweep number) = (record { leaves = refl; complete = λ a. tt }, refl)
+  ends_at_once (Query number) = record { leaves = refl; complete = λ bytes script told reads a b. tt; refused = λ bytes fault told reads a. tt }
+  ends_at_once Frames = record { leaves = refl; complete = λ bytes script told reads a b. tt; refused = λ bytes fault told reads a. tt }
 
   -- where there is no memory to read the words, that is told
   pub answers_memory : AnswersWords words source source out out Memory

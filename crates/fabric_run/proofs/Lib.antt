@@ -5,3 +5,9 @@ pub mod WalkOfWords
 pub mod Numerals
 pub mod NamedCommands
 pub mod Answering
+pub mod Halves
+pub mod EachLine
+pub mod Rebuilding
+pub mod Following
+pub mod Zipped
+pub mod LegalSurfaces

@@ -21,7 +21,7 @@ use Rattle.clap.specs.declared.builder.value_parser.ValueParser.TheVariants as v
 use Rattle.clap.proofs.FaultLemmas.{leaf_fault}
 use Rattle.clap.proofs.WalkLemmas.{first_value-rows, list_any-map, one_text-rows}
 use Rattle.fabric_run.specs.declared.words.Command.{Command}
-use Rattle.fabric_run.specs.declared.words.Command.TheVariants.{Turns, Run, Make, Sweep}
+use Rattle.fabric_run.specs.declared.words.Command.TheVariants.{Turns, Run, Make, Sweep, Query, Frames}
 use Rattle.fabric_run.specs.Words.{app_with, command_by, command_found, command_in, command_of, command_words, lent_nowhere, number_in}
 use Rattle.fabric_run.specs.Commands.{HasSmallNumber}
 use Rattle.fabric_run.specs.Steps.{HasReadableNumber, IsSmallNumeral}
@@ -84,6 +84,9 @@ turns_named = named_by_values (codes "turns" ∷ [])
 pub run_named : command_in (codes "run" ∷ []) ≡ Some Run
 run_named = named_by_values (codes "run" ∷ [])
 
+pub frames_named : command_in (codes "frames" ∷ []) ≡ Some Frames
+frames_named = named_by_values (codes "frames" ∷ [])
+
 module _ (n : ℕ) (small : n ≤ 1000000) where
   number_values : (word : Text) → reads_one is_command is_number false word (decimal n ∷ []) ≡ cond (is_command word) (Some (word, Some (decimal n))) None
   number_values word = rw (not_dashes n small, not_flag n small, is_taken n small) refl
@@ -93,6 +96,9 @@ module _ (n : ℕ) (small : n ≤ 1000000) where
 
   pub sweep_named : command_in (codes "sweep" ∷ decimal n ∷ []) ≡ Some (Sweep n)
   sweep_named = named_by_values (codes "sweep" ∷ decimal n ∷ []) ∙ ap (option_and_then found) (number_values (codes "sweep")) ∙ ap (λ k. Some (Sweep k)) (is_read n small)
+
+  pub query_named : command_in (codes "query" ∷ decimal n ∷ []) ≡ Some (Query n)
+  query_named = named_by_values (codes "query" ∷ decimal n ∷ []) ∙ ap (option_and_then found) (number_values (codes "query")) ∙ ap (λ k. Some (Query k)) (is_read n small)
 
 -- ---- the number is one that is read
 
@@ -132,20 +138,22 @@ pub named_within : (words : List Text) (command : Command) → command_in words 
 named_within words command named = go (values words) (number_of_values false words) (sym (named_by_values words) ∙ named)
   where
     alone : (word : Text) → command_of word None ≡ Some command → HasSmallNumber command
-    alone word e = pick (bytes_eq word (codes "turns")) (bytes_eq word (codes "run")) e
+    alone word e = pick (bytes_eq word (codes "turns")) (bytes_eq word (codes "run")) (bytes_eq word (codes "frames")) e
       where
-        pick : (a b : Bool) → cond a (Some Turns) (cond b (Some Run) None) ≡ Some command → HasSmallNumber command
-        pick true b e = subst HasSmallNumber (ap (λ (o : Option Command). unwrap_or o command) e) tt
-        pick false true e = subst HasSmallNumber (ap (λ (o : Option Command). unwrap_or o command) e) tt
-        pick false false e = cc
+        pick : (a b c : Bool) → cond a (Some Turns) (cond b (Some Run) (cond c (Some Frames) None)) ≡ Some command → HasSmallNumber command
+        pick true b c e = subst HasSmallNumber (ap (λ (o : Option Command). unwrap_or o command) e) tt
+        pick false true c e = subst HasSmallNumber (ap (λ (o : Option Command). unwrap_or o command) e) tt
+        pick false false true e = subst HasSmallNumber (ap (λ (o : Option Command). unwrap_or o command) e) tt
+        pick false false false e = cc
 
     numbered : (word : Text) (n : ℕ) → n ≤ 1000000 → command_of word (Some n) ≡ Some command → HasSmallNumber command
-    numbered word n small e = pick (bytes_eq word (codes "make")) (bytes_eq word (codes "sweep")) e
+    numbered word n small e = pick (bytes_eq word (codes "make")) (bytes_eq word (codes "sweep")) (bytes_eq word (codes "query")) e
       where
-        pick : (a b : Bool) → cond a (Some (Make n)) (cond b (Some (Sweep n)) None) ≡ Some command → HasSmallNumber command
-        pick true b e = subst HasSmallNumber (ap (λ (o : Option Command). unwrap_or o command) e) small
-        pick false true e = subst HasSmallNumber (ap (λ (o : Option Command). unwrap_or o command) e) small
-        pick false false e = cc
+        pick : (a b c : Bool) → cond a (Some (Make n)) (cond b (Some (Sweep n)) (cond c (Some (Query n)) None)) ≡ Some command → HasSmallNumber command
+        pick true b c e = subst HasSmallNumber (ap (λ (o : Option Command). unwrap_or o command) e) small
+        pick false true c e = subst HasSmallNumber (ap (λ (o : Option Command). unwrap_or o command) e) small
+        pick false false true e = subst HasSmallNumber (ap (λ (o : Option Command). unwrap_or o command) e) small
+        pick false false false e = cc
 
     go : (o : Option (Text × Option Text)) → IfSome o HasNumber → option_and_then found o ≡ Some command → HasSmallNumber command
     go None h e = cc

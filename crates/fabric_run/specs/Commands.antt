@@ -14,10 +14,12 @@ use Rattle.run_report.specs.Text.{report_text}
 use Rattle.run_report.specs.Summary.{summary_text}
 use Rattle.fabric_run.specs.declared.status.Status.{Status}
 use Rattle.fabric_run.specs.declared.words.Command.{Command}
-use Rattle.fabric_run.specs.declared.words.Command.TheVariants.{Turns, Run, Make, Sweep}
+use Rattle.fabric_run.specs.declared.words.Command.TheVariants.{Turns, Run, Make, Sweep, Query, Frames}
 use Rattle.fabric_run.specs.declared.status.Status.TheVariants.{Done, Refused, Usage, ReadFault, WriteFault, Memory}
 use Rattle.fabric_run.specs.Words.{command_in}
 use Rattle.fabric_run.specs.Outcome.{Reading, Ends, EndsAlone}
+use Rattle.fabric_run.specs.Query.{query_text}
+use Rattle.fabric_run.specs.Frames.{frames_text}
 
 -- a script has at most 4,194,304 bytes
 abbrev pub script_reading : Reading PlainScript
@@ -59,12 +61,32 @@ pub record IsSweep (number : ℕ) (text : List ℕ) : Type 0 where
 abbrev pub SweepEnds : ℕ → (old new : SinkView) → Status → Type 0
 SweepEnds number = EndsAlone (IsSweep number)
 
+-- a text is what a query of that number finds after the script's turns, whose journal is legal
+pub record IsQueryOf (number : ℕ) (script : PlainScript) (text : List ℕ) : Type 0 where
+  pub legal : IsLegal script (journal_of_turns script)
+  pub tells : text ≡ query_text number script
+
+-- how the command `query` ends
+abbrev pub QueryEnds : ℕ → (old new : SourceView) → (out_old out_new : SinkView) → Status → Type 0
+QueryEnds number = Ends script_reading (IsQueryOf number)
+
+-- a text tells the frames that the mounts of the script's turns changed, and the journal of these turns is legal
+pub record AreFramesOfTurns (script : PlainScript) (text : List ℕ) : Type 0 where
+  pub legal : IsLegal script (journal_of_turns script)
+  pub tells : text ≡ frames_text script
+
+-- how the command `frames` ends
+abbrev pub FramesEnd : (old new : SourceView) → (out_old out_new : SinkView) → Status → Type 0
+FramesEnd = Ends script_reading AreFramesOfTurns
+
 -- how a command ends; `make` and `sweep` read nothing
 abbrev pub CommandEnds : Command → (old new : SourceView) → (out_old out_new : SinkView) → Status → Type 0
 CommandEnds Turns old new out_old out_new status = TurnsEnd old new out_old out_new status
 CommandEnds Run old new out_old out_new status = RunEnds old new out_old out_new status
 CommandEnds (Make number) old new out_old out_new status = MakeEnds number out_old out_new status × (new ≡ old)
 CommandEnds (Sweep number) old new out_old out_new status = SweepEnds number out_old out_new status × (new ≡ old)
+CommandEnds (Query number) old new out_old out_new status = QueryEnds number old new out_old out_new status
+CommandEnds Frames old new out_old out_new status = FramesEnd old new out_old out_new status
 
 -- the number of a command is at most 1,000,000
 abbrev pub HasSmallNumber : Command → Type 0
@@ -72,6 +94,8 @@ HasSmallNumber Turns = Unit {0}
 HasSmallNumber Run = Unit {0}
 HasSmallNumber (Make number) = number ≤ 1000000
 HasSmallNumber (Sweep number) = number ≤ 1000000
+HasSmallNumber (Query number) = number ≤ 1000000
+HasSmallNumber Frames = Unit {0}
 
 -- the words name a command, and it ended
 pub record RunsCommand (words : List (List ℕ)) (old new : SourceView) (out_old out_new : SinkView) (status : Status) : Type 0 where
@@ -108,3 +132,5 @@ pub record AnswersWords (words : List (List ℕ)) (old new : SourceView) (out_ol
   pub run : words ≡ codes "run" ∷ [] → RunEnds old new out_old out_new status
   pub make : (number : ℕ) → number ≤ 1000000 → words ≡ codes "make" ∷ decimal number ∷ [] → MakeEnds number out_old out_new status × (new ≡ old)
   pub sweep : (number : ℕ) → number ≤ 1000000 → words ≡ codes "sweep" ∷ decimal number ∷ [] → SweepEnds number out_old out_new status × (new ≡ old)
+  pub query : (number : ℕ) → number ≤ 1000000 → words ≡ codes "query" ∷ decimal number ∷ [] → QueryEnds number old new out_old out_new status
+  pub frames : words ≡ codes "frames" ∷ [] → FramesEnd old new out_old out_new status

@@ -1,6 +1,9 @@
 pub mod Status
 pub mod Words
 pub mod Outcome
+pub mod Surfaces
+pub mod Query
+pub mod Frames
 pub mod Commands
 pub mod Steps
 pub mod Texts

@@ -1,5 +1,5 @@
 -- What the parts of a command do; each is a part of a definition of `Outcome`, and nothing is promised by them.
-use Rattle.std.specs.Prelude.{◌≡◌, ◌≤◌, List, ℕ, Result, Ok, Err, map, codes, IfSome}
+use Rattle.std.specs.Prelude.{◌≡◌, ◌≤◌, List, [], ℕ, Result, Ok, Err, map, codes, IfSome}
 use Rattle.std.specs.Borrow.{Bor}
 use Rattle.std.specs.Str.Parse.{IsNumeral, without_leading_plus}
 use Rattle.clap.specs.Simple.{app_of}
@@ -8,8 +8,16 @@ use Rattle.clap.specs.declared.builder.command.Command.{Command as CommandLine}
 use Rattle.counts.specs.Raised.{HasRisen}
 use Rattle.byte_ports.specs.Sources.{SourceView}
 use Rattle.byte_ports.specs.Sinks.{SinkView}
+use Rattle.shadow_frame.specs.declared.Size.{Size}
+use Rattle.tree_settle.specs.Limits.{IsSizeInRange}
+use Rattle.host_views.specs.Registry.{registry_of}
+use Rattle.tree_revision.specs.Lawful.{IsLawful}
+use Rattle.tree_revision.specs.Records.{PlainRecord}
 use Rattle.script_read.specs.Plain.{plain_script}
 use Rattle.script_read.specs.declared.script.Script.{Script}
+use Rattle.run_report.specs.Journal.{PlainSurfacePart}
+use Rattle.run_report.specs.Legal.{AreMountsOn, FollowOn}
+use Rattle.run_report.specs.Mounts.{passage_in}
 use Rattle.fabric_run.specs.declared.status.Status.{Status}
 use Rattle.fabric_run.specs.declared.status.Status.TheVariants.{Done, Refused, Usage, ReadFault, WriteFault, Memory}
 use Rattle.fabric_run.specs.Outcome.{Appends, AppendsPart, ReadsAs, HasFault}
@@ -49,3 +57,14 @@ pub record IsSmallNumeral (text : Text) : Type 0 where
 -- so is the text that was found for `number`, where there is one
 abbrev pub HasReadableNumber : List Row → Type 0
 HasReadableNumber rows = IfSome (one_of (codes "number") rows) IsSmallNumeral
+
+-- records of which the revisions can be made again, on a surface of that first size
+pub record MayBeRebuilt (first : Size) (entries : List PlainRecord) : Type 0 where
+  pub size : IsSizeInRange first
+  pub lawful : IsLawful first entries
+
+-- mounts that can be followed, on a surface of that first size: over a lawful history each leads on from where the one before it led to, and from no view on the views follow
+pub record MayBeFollowed (first : Size) (part : PlainSurfacePart) : Type 0 where
+  pub lawful : IsLawful first part.records
+  pub forward : FollowOn 0 (map passage_in part.mounts)
+  pub mounts : AreMountsOn first part.records (registry_of []) part.mounts

@@ -1,8 +1,10 @@
 //! The program `fabric`: it does what its words ask for, reading from standard input and writing to standard output.
 #![tactic(auto)]
 
+mod frames;
 mod laws;
 mod making;
+mod query;
 mod reading;
 mod reporting;
 mod status;

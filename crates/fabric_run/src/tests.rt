@@ -156,6 +156,84 @@ fn small_scripts_print_their_reports(rt: HostRuntime) {
     }
 }
 
+/// A view in another one, which has no view of its own.
+const NESTED: &str =
+    "{\"version\":1,\"surfaces\":[{\"id\":1,\"width\":100,\"height\":100}],\"actors\":[{\"name\":\"js\",\"steps\":[{\"do\":\"complete\",\"on\":1,\"tree\":[{\"tag\":2,\"kind\":\"view\",\"props\":{\"left\":10,\"top\":10,\"width\":50,\"height\":50},\"children\":[{\"tag\":3,\"kind\":\"view\",\"props\":{\"left\":5,\"top\":5,\"width\":10,\"height\":10,\"background\":4278190080}}]}]},{\"do\":\"mount\",\"on\":1}]}],\"turns\":[]}";
+
+/// A text that begins in a view of 50 by 50 points, which clips it, and whose middle lies beyond.
+const CLIPPED: &str =
+    "{\"version\":1,\"surfaces\":[{\"id\":1,\"width\":100,\"height\":100}],\"actors\":[{\"name\":\"js\",\"steps\":[{\"do\":\"complete\",\"on\":1,\"tree\":[{\"tag\":2,\"kind\":\"view\",\"props\":{\"width\":50,\"height\":50,\"clip\":1},\"children\":[{\"tag\":3,\"kind\":\"text\",\"props\":{\"left\":40,\"top\":0,\"width\":40,\"height\":20}}]}]}]}],\"turns\":[]}";
+
+/// The same, where the view does not clip.
+const UNCLIPPED: &str =
+    "{\"version\":1,\"surfaces\":[{\"id\":1,\"width\":100,\"height\":100}],\"actors\":[{\"name\":\"js\",\"steps\":[{\"do\":\"complete\",\"on\":1,\"tree\":[{\"tag\":2,\"kind\":\"view\",\"props\":{\"width\":50,\"height\":50,\"clip\":0},\"children\":[{\"tag\":3,\"kind\":\"text\",\"props\":{\"left\":40,\"top\":0,\"width\":40,\"height\":20}}]}]}]}],\"turns\":[]}";
+
+/// A view that has a view of its own from its second revision on.
+const NEW_CONTEXT: &str =
+    "{\"version\":1,\"surfaces\":[{\"id\":1,\"width\":100,\"height\":100}],\"actors\":[{\"name\":\"js\",\"steps\":[{\"do\":\"complete\",\"on\":1,\"tree\":[{\"tag\":2,\"kind\":\"view\",\"props\":{\"left\":10,\"top\":10,\"width\":50,\"height\":50},\"children\":[{\"tag\":3,\"kind\":\"view\",\"props\":{\"left\":5,\"top\":5,\"width\":10,\"height\":10,\"background\":4278190080}},{\"tag\":4,\"kind\":\"text\",\"props\":{\"left\":0,\"top\":20,\"width\":50,\"height\":10}}]}]},{\"do\":\"mount\",\"on\":1},{\"do\":\"props\",\"on\":1,\"tag\":2,\"props\":{\"opacity\":50}},{\"do\":\"mount\",\"on\":1}]}],\"turns\":[]}";
+
+/// Its mounts, with the frames that they changed.
+const NEW_CONTEXT_FRAMES: &str =
+    "frames\nsurface 1\nmount 0 1\nframe 3 15 15 10 10\nframe 4 10 30 50 10\nmount 1 2\nframe 2 10 10 50 50\nframe 3 5 5 10 10\nframe 4 0 20 50 10\nend\n";
+
+/// A text that grows while mounting is suspended, to the end.
+const GROWN_WHILE_SUSPENDED: &str =
+    "{\"version\":2,\"surfaces\":[{\"id\":1,\"width\":100,\"height\":100}],\"actors\":[{\"name\":\"js\",\"steps\":[{\"do\":\"complete\",\"on\":1,\"tree\":[{\"tag\":2,\"kind\":\"text\",\"props\":{\"width\":10,\"height\":10}}]},{\"do\":\"mount\",\"on\":1},{\"do\":\"suspend\",\"on\":1},{\"do\":\"props\",\"on\":1,\"tag\":2,\"props\":{\"width\":20}}]}],\"turns\":[]}";
+
+/// A list that scrolls while a label changes, and a surface with nothing on it.
+const SCROLLED: &str =
+    "{\"version\":1,\"surfaces\":[{\"id\":1,\"width\":100,\"height\":100},{\"id\":5,\"width\":10,\"height\":10}],\"actors\":[{\"name\":\"js\",\"steps\":[{\"do\":\"complete\",\"on\":1,\"tree\":[{\"tag\":7,\"kind\":\"scroll\",\"props\":{\"width\":100,\"height\":100},\"children\":[{\"tag\":8,\"kind\":\"text\",\"props\":{\"width\":50,\"height\":10,\"label\":\"a\"}}]}]},{\"do\":\"mount\",\"on\":1},{\"do\":\"state\",\"on\":1,\"tag\":7,\"set\":[0,40]},{\"do\":\"props\",\"on\":1,\"tag\":8,\"props\":{\"label\":\"b\"}}]}],\"turns\":[]}";
+
+#[test]
+fn nodes_are_found_where_they_are(rt: HostRuntime) {
+    for (script, tag, lines) in [
+        (NESTED, "3", "surface 1 at 1 measure 15 15 10 10 hit 3\n"),
+        (NESTED, "2", "surface 1 at 1 measure 10 10 50 50 hit none\n"),
+        (NESTED, "9", "surface 1 at 1 absent\n"),
+        (CLIPPED, "3", "surface 1 at 1 measure 40 0 40 20 hit none\n"),
+        (UNCLIPPED, "3", "surface 1 at 1 measure 40 0 40 20 hit 3\n"),
+        (
+            GROWN_WHILE_SUSPENDED,
+            "2",
+            "surface 1 at 3 measure 0 0 20 10 hit 2\n",
+        ),
+        (
+            SCROLLED,
+            "8",
+            "surface 1 at 3 measure 0 0 50 10 hit 8\nsurface 5 at 0 absent\n",
+        ),
+        (MOUNT_ALONE, "0", "surface 1 at 0 absent\n"),
+        (NO_ACTOR, "1000000", ""),
+    ] {
+        let text = format!(in rt.alloc(); "query {tag}\n{lines}end\n").expect(
+            &rt,
+            "memory for a text",
+        );
+        let out = written(&rt, &["query", tag], script.as_bytes(), 997, 0, "");
+        assert_eq!(rt; text_of(&rt, out.bytes()), text.as_str());
+    }
+}
+
+#[test]
+fn changed_frames_are_told(rt: HostRuntime) {
+    for (script, text) in [
+        (NEW_CONTEXT, NEW_CONTEXT_FRAMES),
+        (
+            GROWN_WHILE_SUSPENDED,
+            "frames\nsurface 1\nmount 0 1\nframe 2 0 0 10 10\nend\n",
+        ),
+        (
+            SCROLLED,
+            "frames\nsurface 1\nmount 0 1\nframe 7 0 0 100 100\nframe 8 0 0 50 10\nmount 1 3\nsurface 5\nend\n",
+        ),
+        (MOUNT_ALONE, "frames\nsurface 1\nend\n"),
+        (NO_ACTOR, "frames\nend\n"),
+    ] {
+        let out = written(&rt, &["frames"], script.as_bytes(), 997, 0, "");
+        assert_eq!(rt; out.bytes(), text.as_bytes());
+    }
+}
+
 /// Four commits of one actor while another mounts: a tree, a suspend, a change, and a resume.
 const MOUNTED_BY_ANOTHER: &str =
     "{\"version\":2,\"surfaces\":[{\"id\":1,\"width\":100,\"height\":100}],\"actors\":[{\"name\":\"js\",\"steps\":[{\"do\":\"complete\",\"on\":1,\"tree\":[{\"tag\":2,\"kind\":\"text\",\"props\":{\"width\":10}}]},{\"do\":\"suspend\",\"on\":1},{\"do\":\"props\",\"on\":1,\"tag\":2,\"props\":{\"width\":20}},{\"do\":\"resume\",\"on\":1}]},{\"name\":\"ui\",\"steps\":[{\"do\":\"mount\",\"on\":1},{\"do\":\"mount\",\"on\":1},{\"do\":\"mount\",\"on\":1}]}],\"turns\":[]}";
@@ -279,7 +357,7 @@ fn what_is_refused_is_told(rt: HostRuntime) {
 
 #[test]
 fn words_that_name_no_command(rt: HostRuntime) {
-    let cases: [&[&str]; 11] = [
+    let cases: [&[&str]; 14] = [
         &[],
         &["turns", "5"],
         &["run", "5"],
@@ -288,6 +366,9 @@ fn words_that_name_no_command(rt: HostRuntime) {
         &["make", "-1"],
         &["sweep", "0", "0"],
         &["sweep", "ten"],
+        &["query"],
+        &["query", "1000001"],
+        &["frames", "5"],
         &["paint"],
         &["--help"],
         &[""],
@@ -300,7 +381,7 @@ fn words_that_name_no_command(rt: HostRuntime) {
         assert!(rt; out.bytes().is_empty());
         assert_eq!(rt;
             err.bytes(),
-            "usage: fabric turns | run | make N | sweep N\n".as_bytes()
+            "usage: fabric turns | run | make N | sweep N | query N | frames\n".as_bytes()
         );
     }
 }

@@ -56,7 +56,10 @@ fn write_status<E: Sink>(err: &mut E, status: &Status) -> Result<(), Failed>
     match status {
         Status::Done => Ok(()),
         Status::Refused(fault) => write_fault(err, fault),
-        Status::Usage => write_whole(err, b"usage: fabric turns | run | make N | sweep N\n"),
+        Status::Usage => write_whole(
+            err,
+            b"usage: fabric turns | run | make N | sweep N | query N | frames\n",
+        ),
         Status::ReadFault => write_whole(err, b"fault: read\n"),
         Status::WriteFault => write_whole(err, b"fault: write\n"),
         Status::Memory => write_whole(err, b"fault: memory\n"),

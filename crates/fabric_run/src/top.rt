@@ -4,7 +4,9 @@ ghost use Rattle.std.specs.Prelude.{map, string_bytes};
 ghost use Rattle.fabric_run.specs.Commands.{AnswersWords, CommandEnds, HasSmallNumber};
 ghost use Rattle.fabric_run.specs.Texts.{Tells, status_line};
 
+use crate::frames::fabric_frames;
 use crate::making::{fabric_make, fabric_sweep};
+use crate::query::fabric_query;
 use crate::status::Status;
 use crate::texts::told;
 use crate::threads::fabric_run;
@@ -37,6 +39,8 @@ fn do_command<R: Threads + Wait + Sync, S: Source, K: Sink, E: Sink, G: Gate + S
         Command::Run => fabric_run(rt, alloc, source, out, err, gate),
         Command::Make { number } => fabric_make(alloc, number, out, err),
         Command::Sweep { number } => fabric_sweep(alloc, &mut made, number, out, err),
+        Command::Query { number } => fabric_query(alloc, &mut made, number, source, out, err),
+        Command::Frames => fabric_frames(alloc, &mut made, source, out, err),
     }
 }
 

@@ -10,7 +10,7 @@ use clap::{Arg, ArgMatches, value_parser};
 use std::alloc::{AllocError, Global};
 
 /// The words of which `command` is one.
-static COMMANDS: [&str; 4] = ["turns", "run", "make", "sweep"];
+static COMMANDS: [&str; 6] = ["turns", "run", "make", "sweep", "query", "frames"];
 
 /// What the words ask for.
 #[derive(Clone, Copy)]
@@ -23,6 +23,10 @@ pub enum Command {
     Make { number: u32 },
     /// The script of a number is run, and what it came to is written.
     Sweep { number: u32 },
+    /// A script is run by its list of turns, and it is written where the node of a tag is.
+    Query { number: u32 },
+    /// A script is run by its list of turns, and it is written which frames its mounts changed.
+    Frames,
 }
 
 /// The command line of the program, for words without its name: a `command`, and maybe a `number` from 0
@@ -41,7 +45,8 @@ fn command_line<'a>(alloc: Global) -> Result<clap::Command<'a>, AllocError>
         .arg(number)
 }
 
-/// The command of a word and a number: `make` and `sweep` have one, and `turns` and `run` have none.
+/// The command of a word and a number: `make`, `sweep` and `query` have one, and `turns`, `run` and
+/// `frames` have none.
 fn command_of(word: &str, number: Option<u32>) -> Option<Command>
     ensures { result ≡ command_of word.now number }
 {
@@ -50,6 +55,8 @@ fn command_of(word: &str, number: Option<u32>) -> Option<Command>
         ("run", None) => Some(Command::Run),
         ("make", Some(number)) => Some(Command::Make { number }),
         ("sweep", Some(number)) => Some(Command::Sweep { number }),
+        ("query", Some(number)) => Some(Command::Query { number }),
+        ("frames", None) => Some(Command::Frames),
         _ => None,
     }
 }

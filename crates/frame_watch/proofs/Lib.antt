@@ -1,0 +1,5 @@
+pub mod Read
+pub mod Mounted
+pub mod Hearing
+pub mod Telling
+pub mod SmallMounts

@@ -1,0 +1,5 @@
+pub mod Frames
+pub mod Mounts
+pub mod Reading
+pub mod Watchers
+pub mod MemoryWatchers
