@@ -28,6 +28,7 @@ const playback = () => playbacks[surface];
 
 async function openFile(file) {
   if (!file) return;
+  $('examples').value = '';
   await openBytes(file.name, () => file.arrayBuffer().then((buffer) => new Uint8Array(buffer)));
 }
 
@@ -85,7 +86,11 @@ function say(text) { $('status').textContent = text; }
 
 function showOnly(id) {
   for (const name of ['welcome', 'error', 'run']) $(name).hidden = name !== id;
-  if (id !== 'run') report = null;
+  $('search-form').hidden = $('keys').hidden = id !== 'run';
+  if (id === 'run') return;
+  report = null;
+  mutations.show(0, -1);
+  closeSearch();
 }
 
 // The line that is wrong, with those around it.

@@ -475,7 +475,7 @@ function* readMounts(lines, report, surface) {
   }
   if (!lines.take('views ')) lines.fail(`a mutation, a transaction or “views ${surface.id}” should follow`);
   lines.number(`surface ${surface.id}`, surface.id, surface.id);
-  surface.views = { line: lines.line, first: report.items.count, count: 0 };
+  surface.views = { line: lines.line, start: lines.start, first: report.items.count, count: 0 };
   lines.end();
   lines.next('a view, “mounts” or “end”');
   while (lines.take('view ')) {

@@ -70,7 +70,7 @@ class Screen {
     const look = [left, top, width, height, shown.x, shown.y, shown.width, shown.height, background, signs, label, scrolled, now === tag, selected === tag, clips].join();
     if (box.look === look) return box;
     box.look = look;
-    box.className = ['box', clips ? 'clips' : '', ...marks.slice(-1), now === tag ? 'now' : '', selected === tag ? 'selected' : ''].join(' ');
+    box.className = ['box', clips ? 'clips' : '', Math.min(width, height) < 18 ? 'small' : '', ...marks.slice(-1), now === tag ? 'now' : '', selected === tag ? 'selected' : ''].join(' ');
     box.dataset.kind = view.kind;
     box.style.cssText = `left:${left}px;top:${top}px;width:${width}px;height:${height}px;${clipStyle(rect, shown, scale)}${background >= 16777216 ? `background-color:${cssColor(background)};` : ''}`;
     box.replaceChildren();

@@ -201,10 +201,10 @@ class Timeline {
     paint.lineWidth = 1.5;
     if (filled) paint.fillRect(left + gap, y + 3, width - 2 * gap, LANE - 7);
     else paint.strokeRect(left + gap + 1, y + 4, Math.max(1, width - 2 * gap - 2), LANE - 9);
-    if (width >= 14) {
+    if (paint.measureText(sign).width + 4 <= width) {
       paint.fillStyle = filled ? colors.panel : color;
       paint.textAlign = 'center';
-      paint.fillText(sign, left + width / 2, y + LANE / 2 - 0.5, width - 4);
+      paint.fillText(sign, left + width / 2, y + LANE / 2 - 0.5);
       paint.textAlign = 'left';
     }
     if (item === this.here || item === this.cursor) {
@@ -278,7 +278,7 @@ class Timeline {
   }
 
   tell(item) {
-    this.text.textContent = item ? this.textOf(item) : 'Point at a commit, a mount or a step to read it; a click goes there.';
+    this.text.textContent = item ? this.textOf(item) : 'Point at a commit, a mount or a step to read it; a click goes there. C complete, S state, P props, Z size, X stop, ‖ suspend, ▸ resume, and the tries where there were several; ✓ admitted, × cancelled, m mounted, 0 nothing newer, h held.';
   }
 
   textOf(item) {

@@ -35,13 +35,13 @@ class Views {
         if (!node) return `there is no view ${tag}`;
         if (node.parent) return `view ${tag} is in ${node.parent.tag} already`;
         if (node === parent || this.isBelow(parent, node)) return `view ${tag} would lie in itself`;
-        return items.index[item] > parent.children.length ? `${parent.tag} has ${parent.children.length} children` : null;
+        return items.index[item] > parent.children.length ? `${parent.tag} has ${childrenText(parent)}, so nothing can be inserted at ${items.index[item]}` : null;
       }
       case REMOVE: {
         const parent = this.nodes.get(items.parent[item]);
         if (!parent) return `there is no view ${items.parent[item]}`;
         const child = parent.children[items.index[item]];
-        if (!child) return `${parent.tag} has ${parent.children.length} children`;
+        if (!child) return `${parent.tag} has ${childrenText(parent)}, so none stands at ${items.index[item]}`;
         return child.tag === tag ? null : `view ${child.tag} stands there`;
       }
       default:
@@ -148,6 +148,10 @@ class Views {
     }
     return views;
   }
+}
+
+function childrenText({ children }) {
+  return children.length === 1 ? '1 child' : `${children.length} children`;
 }
 
 const MUTATIONS_A_SNAPSHOT = 20000;
