@@ -120,6 +120,7 @@ function showRun() {
   selected = null;
   hovered = null;
   closeSearch();
+  $('mounts').dataset.of = '';
   $('surfaces').replaceChildren(...report.surfaces.map((one, s) => option(s, one.id)));
   timeline.show(report);
   if (report.surfaces.length === 0) {
@@ -166,6 +167,9 @@ function goTo(nextSurface, mount, step) {
   changes = run.changes();
   showStep(run);
   showScreen();
+  // A step inside a mount is followed; after a leap it is enough that something is in sight.
+  if (run.step > 0 && run.step < run.count) screen.bringIntoSight(report.items.tag[itemAt(run.step - 1)]);
+  screen.bringSomethingIntoSight();
   showDetails();
   timeline.mark(surface, run.mount);
 }

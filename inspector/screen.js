@@ -100,6 +100,15 @@ class Screen {
     }
   }
 
+  bringSomethingIntoSight() {
+    const { top, bottom, left, right } = this.element.getBoundingClientRect();
+    for (const box of this.boxes.children) {
+      const here = box.getBoundingClientRect();
+      if (here.bottom > top && here.top < bottom && here.right > left && here.left < right) return;
+    }
+    this.boxes.firstElementChild?.scrollIntoView({ block: 'start', inline: 'start' });
+  }
+
   bringIntoSight(tag) {
     this.byTag.get(tag)?.scrollIntoView({ block: 'nearest', inline: 'nearest' });
   }
