@@ -184,8 +184,11 @@ function showMounts(run) {
 function showStep(run) {
   const { step, count, mount } = run;
   $('step-text').textContent = `${step} of ${count}`;
-  $('step-back').disabled = $('step-first').disabled = step === 0;
-  $('step-on').disabled = $('step-last').disabled = step === count;
+  $('step-first').disabled = step === 0;
+  $('step-last').disabled = step === count;
+  // Beyond the steps of a mount lie those of the next one.
+  $('step-back').disabled = step === 0 && mount === 0;
+  $('step-on').disabled = step === count && mount >= run.surface.mounts.length - 1;
   $('mount-back').disabled = mount === 0;
   $('mount-on').disabled = mount >= run.surface.mounts.length - 1;
   const one = run.surface.mounts[mount];
