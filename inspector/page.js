@@ -296,6 +296,11 @@ function startSearch(text) {
 
 function closeSearch() {
   found = [];
+  // What is hidden keeps the focus for a while, and the keys would still go to it.
+  if ($('found-part').contains(document.activeElement)) {
+    document.activeElement.blur();
+    $('screen').focus();
+  }
   $('found-part').hidden = true;
   foundList.show(0, -1);
 }
@@ -383,7 +388,7 @@ function key(event) {
   }
   if (event.key === 'Escape') closeSearch();
   const way = { ArrowUp: -1, ArrowDown: 1 }[event.key];
-  if (way && target === $('found')) goToFound(Math.max(0, Math.min(found.length - 1, foundAt + way)));
+  if (way && target === $('found') && found.length > 0) goToFound(Math.max(0, Math.min(found.length - 1, foundAt + way)));
   else if (way && target === $('mutations')) move(way < 0 ? 'step-back' : 'step-on');
   else if (way) selectBeside(way);
   else if (KEYS[event.key]) move(KEYS[event.key]);

@@ -40,11 +40,12 @@ class Screen {
     const gone = [...before.values()].filter((place) => !inTree.has(place.tag));
     const covered = coveredLabels(placed, scale);
     const drawn = [];
-    for (const place of placed) {
-      if (place.shown) drawn.push(this.box(place, marksOf(changes.get(place.tag)), scale, extent, !covered.has(place.tag), now, selected));
-    }
+    // These lie below, so that they hide nothing that stands.
     for (const place of gone) {
       if (place.shown) drawn.push(this.box(place, [views.get(place.tag) ? 'removed' : 'deleted'], scale, extent, true, now, selected));
+    }
+    for (const place of placed) {
+      if (place.shown) drawn.push(this.box(place, marksOf(changes.get(place.tag)), scale, extent, !covered.has(place.tag), now, selected));
     }
     this.arrange(drawn);
   }
