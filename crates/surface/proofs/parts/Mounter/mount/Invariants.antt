@@ -1,0 +1,8 @@
+use Rattle.std.proofs.Common.{◌≡◌}
+use Rattle.surface.specs.Passing.{PassGoesOn}
+use Rattle.surface.proofs.parts.Mounter.mount.Given as goal
+
+abbrev pub invariant-loop : goal.invariant-loop
+invariant-loop g l =
+    (goal.iterator-loop g).can_next l.iterator' × (goal.iterator-loop g).is_finite l.iterator'
+    × PassGoesOn l.fn.self.surface.pass l.self.surface.pass × (l.self.coordinator ≡ l.fn.self.coordinator)

@@ -1,0 +1,212 @@
+//! Commits and holds, by a thread's handle.
+
+ghost use Rattle.std.specs.Prelude.{◌≡◌, ◌≤◌, IfOk, IfSome, IsSome, Some, length, take, unwrap_or};
+ghost use Rattle.shadow_node.specs.InRange.{IsTagInRange};
+ghost use Rattle.tree_revision.specs.InRange.{IsOpInRange};
+ghost use Rattle.tree_revision.specs.Records.{PlainRecord, plain_op, state as state_of};
+ghost use Rattle.tree_revision.specs.Stands.{StandsFor};
+ghost use Rattle.commit_core.specs.Commit.{entry_under_way};
+ghost use Rattle.commit_core.specs.Events.{IsReadyFor};
+ghost use Rattle.commit_spine.specs.SpinePorts.{spine_told};
+ghost use Rattle.surface.specs.declared.parts.Handle.{Handle as HandleValue};
+ghost use Rattle.surface.specs.Passing.{PassGoesOn};
+ghost use Rattle.surface.specs.Committing.{IsCommitAnswer, IsCommittedOrOn, IsAtNextCall, IsCommitting, IsHoldAnswer, committed_of, record_by};
+
+use crate::parts::{Handle, Surface};
+use commit_core::{Committer, Progress};
+use native_state::StateChange;
+use shadow_node::Made;
+use std::alloc::{AllocError, Global};
+use std::sync::{Arc, Wait};
+use std::thread;
+use std::thread::Threads;
+use tree_revision::{Answer, Cancel, LookRefusal, Op, Port, Record, Revision};
+
+/// How a commit ended, after so many tries. A try is a look that was answered.
+#[derive(Clone, Copy, Debug, PartialEq, Eq)]
+pub enum Committed {
+    /// It is the record of that number.
+    Admitted { number: u64, tries: u64 },
+    /// There was that cause at the revision of that number.
+    Cancelled { at: u64, tries: u64, cause: Cancel },
+}
+
+impl Handle {
+    /// The handle of that actor, at call 0, with that revision held.
+    pub fn start(surface: Surface, actor: u32, held: Revision) -> Handle
+        requires within { held.newest.number ≤ length surface.pass.kept.seen }
+        requires stands { StandsFor surface.pass.kept.mark.first held (take held.newest.number surface.pass.kept.seen) }
+        ensures surface { result.surface.pass ≡ surface.pass }
+        ensures held { result.held ≡ held }
+        ensures actor { (result.actor ≡ actor) × (result.call ≡ 0) }
+    {
+        Handle {
+            surface,
+            held,
+            actor,
+            call: 0,
+        }
+    }
+
+    /// Commits a change: looks and offers until it is admitted or cancelled. It lets other threads
+    /// run where it came too late or found the turn taken.
+    ///
+    /// Once it is admitted, the handle holds the revision after it. Without memory no record is
+    /// added, and the handle is at the same call.
+    pub fn commit<R: Threads + Wait>(
+        &mut self,
+        rt: &R,
+        alloc: Global,
+        op: Arc<Op>,
+    ) -> Result<Committed, AllocError>
+        requires op { IsOpInRange (plain_op op.value) }
+        requires permit { 1 ≤ self.old.surface.pass.kept.permits }
+        ensures goes_on { PassGoesOn self.old.surface.pass self.new.surface.pass }
+        ensures answer { IsCommitAnswer self.old self.new (record_by self.old (plain_op op.value)) result }
+    {
+        let mut made = Made::start(rt);
+        let mut commit = self.begin(op)?;
+        self.finish(rt, alloc, &mut made, &mut commit)
+    }
+
+    /// Takes a commit under way to its end.
+    fn finish<R: Wait>(
+        &mut self,
+        rt: &R,
+        alloc: Global,
+        made: &mut Made,
+        commit: &mut Committer,
+    ) -> Result<Committed, AllocError>
+        requires under { (entry : PlainRecord) × IsCommitting self.old self.old entry commit.old }
+        requires permit { 1 ≤ self.old.surface.pass.kept.permits }
+        ensures goes_on { PassGoesOn self.old.surface.pass self.new.surface.pass }
+        ensures answer { (entry : PlainRecord) → entry_under_way commit.old ≡ Some entry → IsCommitAnswer self.old self.new entry result }
+    {
+        for _ in rt.forever() {
+            let Ok(ended) = self.event(alloc, made, commit) else {
+                return Err(AllocError);
+            };
+            if let Some(committed) = ended {
+                return Ok(committed);
+            }
+        }
+        unreachable!()
+    }
+
+    /// Commits a change of a family's native state, as `commit` does.
+    pub fn set_state<R: Threads + Wait>(
+        &mut self,
+        rt: &R,
+        alloc: Global,
+        tag: u32,
+        change: StateChange,
+    ) -> Result<Committed, AllocError>
+        requires tag { IsTagInRange tag }
+        requires permit { 1 ≤ self.old.surface.pass.kept.permits }
+        ensures goes_on { PassGoesOn self.old.surface.pass self.new.surface.pass }
+        ensures answer { IsCommitAnswer self.old self.new (record_by self.old (state_of tag change)) result }
+    {
+        let Ok(op) = Arc::new(alloc, Op::State { tag, change }) else {
+            return Err(AllocError);
+        };
+        self.commit(rt, alloc, op)
+    }
+
+    /// Looks once, and holds the newest revision; it answers its number. It waits for nobody.
+    pub fn try_hold(&mut self) -> Result<u64, LookRefusal>
+        ensures goes_on { PassGoesOn self.old.surface.pass self.new.surface.pass }
+        ensures answer { IsHoldAnswer self.old self.new result }
+    {
+        let front = self.surface.try_look()?;
+        let at = front.number();
+        self.held = front;
+        Ok(at)
+    }
+
+    /// The revision that it holds.
+    pub fn held(&self) -> &Revision
+        ensures { result.now ≡ self.now.held }
+    {
+        &self.held
+    }
+
+    /// Its way to the surface, which may be joined with another.
+    pub fn into_surface(self) -> Surface
+        ensures { result.pass ≡ self.surface.pass }
+    {
+        let Handle { surface, .. } = self;
+        surface
+    }
+
+    /// The commit of its next call, before the first look.
+    fn begin(&self, op: Arc<Op>) -> Result<Committer, AllocError>
+        requires { IsOpInRange (plain_op op.value) }
+        ensures { IfOk result (IsCommitting self.now self.now (record_by self.now (plain_op op.value))) }
+    {
+        let entry = Record {
+            actor: self.actor,
+            call: self.call,
+            held: self.held.number(),
+            op,
+        };
+        Ok(Committer::start(entry, self.held.share()?))
+    }
+
+    /// One event of a commit under way: how it ended, or `None` where it goes on. Where it came too
+    /// late or found the turn taken, other threads run before it returns.
+    fn event(
+        &mut self,
+        alloc: Global,
+        made: &mut Made,
+        commit: &mut Committer,
+    ) -> Result<Option<Committed>, AllocError>
+        requires ready { IsReadyFor (spine_told self.old.surface.pass) commit.old }
+        requires permit { 1 ≤ self.old.surface.pass.kept.permits }
+        ensures { (start : HandleValue) (entry : PlainRecord) → IsCommitting start self.old entry commit.old
+            → IsCommittedOrOn start self.new entry commit.new result }
+    {
+        match commit.turn(alloc, made, &mut self.surface) {
+            Progress::Looked { .. } => Ok(None),
+            Progress::Again { .. } => {
+                thread::yield_now();
+                Ok(None)
+            }
+            Progress::Busy => {
+                thread::yield_now();
+                Ok(None)
+            }
+            Progress::Memory => Err(AllocError),
+            Progress::Done { answer, now } => {
+                self.end_call(now);
+                Ok(Some(ended_by(answer)))
+            }
+        }
+    }
+
+    /// Ends its call; it holds that revision from now on, where one is given.
+    fn end_call(&mut self, now: Option<Revision>)
+        requires { IfSome now (λ now. StandsFor self.old.surface.pass.kept.mark.first now self.old.surface.pass.kept.seen) }
+        ensures pass { self.new.surface.pass ≡ self.old.surface.pass }
+        ensures held { self.new.held ≡ unwrap_or now self.old.held }
+        ensures call { IsAtNextCall self.old self.new }
+    {
+        self.call = self.call.saturating_add(1);
+        if let Some(now) = now {
+            self.held = now;
+        }
+    }
+}
+
+/// How a commit ended that was answered so.
+fn ended_by(answer: Answer) -> Committed
+    requires { IsSome (committed_of answer) }
+    ensures { committed_of answer ≡ Some result }
+{
+    match answer {
+        Answer::Admitted { number, tries } => Committed::Admitted { number, tries },
+        Answer::Cancelled { at, tries, cause } => Committed::Cancelled { at, tries, cause },
+        Answer::Held { .. } => unreachable!(),
+        Answer::Mounted { .. } => unreachable!(),
+        Answer::Empty { .. } => unreachable!(),
+    }
+}
