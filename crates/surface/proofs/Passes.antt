@@ -1,9 +1,8 @@
 -- How a pass goes on, and that what stood for the first of its records still does.
-use Rattle.std.proofs.Common.{◌≡◌, ℕ, ◌≤◌, List, length, take, arith, refl, ap, sym, ◌∙◌, subst}
+use Rattle.std.proofs.Common.{ℕ, ◌≤◌, length, take, arith, refl, ap, sym, ◌∙◌, subst}
 use base.Stored.{Gv, gnil, gnum, gcons}
 use Rattle.std.proofs.Math.Seq.{take-length}
 use Rattle.atomic_table.specs.Seated.{table_id_coded}
-use Rattle.tree_revision.specs.Records.{PlainRecord}
 use Rattle.tree_revision.specs.Settled.{KeptRevision}
 use Rattle.tree_revision.specs.Stands.{StandsFor}
 use Rattle.tree_revision.specs.Ports.{Lasts}

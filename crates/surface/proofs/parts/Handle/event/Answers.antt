@@ -1,4 +1,4 @@
-use Rattle.std.proofs.Common.{refl, sym, subst, ◌∙◌}
+use Rattle.std.proofs.Common.{refl, sym, subst}
 use Rattle.tree_revision.specs.Ports.{Lasts}
 use Rattle.commit_spine.specs.SpinePasses.{PassValue}
 use Rattle.commit_spine.specs.SpinePorts.{spine_told}
