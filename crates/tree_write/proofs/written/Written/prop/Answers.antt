@@ -1,0 +1,29 @@
+use Rattle.std.proofs.Common.{rules, ◌≡◌, List, sym, ◌∙◌, subst}
+use Rattle.std.specs.Prelude.{Some}
+use Rattle.prop_table.specs.Table.{IsInRow, RowRule, v2_rules}
+use Rattle.prop_table.specs.Rules.{row_named, rule_at}
+use Rattle.tree_write.proofs.written.Written.prop.Goals as goal
+
+pub returns-in_default : goal.returns-in_default
+returns-in_default c =
+    let found : c.find.result ≡ row_named v2_rules c.args.name.now = c.find.ensures.value ∙ (λ j. row_named (c.node_table-table.ensures j) (c.as_bytes.ensures.value j)) in
+    sym found ∙ c.in_default.is
+
+pub returns-in_default-set : goal.returns-in_default-set
+returns-in_default-set c =
+    let found : c.find.result ≡ row_named v2_rules c.args.name.now = c.find.ensures.value ∙ (λ j. row_named (c.node_table-table.ensures j) (c.as_bytes.ensures.value j)) in
+    record {
+      row = c.in-Some.row;
+      named = sym found ∙ c.in-Some.is;
+      out = λ in_row. c.in_default-set.ensures.in_row.1 (subst (λ (rows : List RowRule). IsInRow (rule_at rows c.in-Some.row) (Some c.args.value)) (sym c.node_table-table.ensures) in_row);
+    }
+
+pub returns : goal.returns
+returns c =
+    let found : c.find.result ≡ row_named v2_rules c.args.name.now = c.find.ensures.value ∙ (λ j. row_named (c.node_table-table.ensures j) (c.as_bytes.ensures.value j)) in
+    record {
+      row = c.in-Some.row;
+      named = sym found ∙ c.in-Some.is;
+      in_row = subst (λ (rows : List RowRule). IsInRow (rule_at rows c.in-Some.row) (Some c.args.value)) c.node_table-table.ensures (c.in-Ok.ensures.in_row.0 tt);
+      node = search rules;
+    }

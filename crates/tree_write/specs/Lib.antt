@@ -1,0 +1,2 @@
+pub mod PlainNodes
+pub mod WrittenNodes
