@@ -1,5 +1,5 @@
 -- What the calls of a written node make of it.
-use Rattle.std.specs.Prelude.{◌≡◌, ℕ, ℤ, List, [], ◌∷◌, ◌++◌, slice_set, Option, Some, None, Result, Ok, Err}
+use Rattle.std.specs.Prelude.{◌≡◌, ℕ, ℤ, List, [], ◌∷◌, ◌++◌, slice_set, Some, None, Result, Ok, Err}
 use Rattle.prop_table.specs.Table.{IsInRow, start_of, v2_rules}
 use Rattle.prop_table.specs.Rules.{row_named, rule_at}
 use Rattle.shadow_kinds.specs.declared.Kind.{Kind}

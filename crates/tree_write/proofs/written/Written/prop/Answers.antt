@@ -1,4 +1,4 @@
-use Rattle.std.proofs.Common.{rules, ◌≡◌, List, ℤ, Bool, true, false, refl, sym, ◌∙◌, subst, to_z, of_z, to_z-of_z, w64}
+use Rattle.std.proofs.Common.{rules, ◌≡◌, List, ℤ, true, false, refl, sym, ◌∙◌, subst, to_z, of_z, to_z-of_z, w64}
 use Rattle.std.specs.Prelude.{Some}
 use Rattle.prop_table.specs.Table.{IsInRow, RowRule, v2_rules}
 use Rattle.prop_table.specs.Rules.{row_named, rule_at}
