@@ -413,6 +413,71 @@ fn a_failed_write_leaves_what_was_written(rt: HostRuntime) {
     }
 }
 
+/// The first screen of a list: three rows in a view that has none of its own.
+const FIRST_SCREEN: &str =
+    "{\"version\":1,\"surfaces\":[{\"id\":1,\"width\":320,\"height\":480}],\"actors\":[{\"name\":\"js\",\"steps\":[{\"do\":\"complete\",\"on\":1,\"tree\":[{\"tag\":1,\"kind\":\"view\",\"props\":{\"width\":320,\"height\":400},\"children\":[{\"tag\":10,\"kind\":\"view\",\"props\":{\"top\":0,\"width\":320,\"height\":78,\"background\":4278190080}},{\"tag\":11,\"kind\":\"view\",\"props\":{\"top\":80,\"width\":320,\"height\":78,\"background\":4278190096}},{\"tag\":12,\"kind\":\"view\",\"props\":{\"top\":160,\"width\":320,\"height\":78,\"background\":4278190112}}]}]},{\"do\":\"mount\",\"on\":1}]}],\"turns\":[]}";
+
+/// Its report, as the definitions give it.
+const FIRST_SCREEN_REPORT: &str =
+    "report 1\nsurface 1\ncommit 1 js 0 complete held 0\nactor js\nstep 0 on 1 admitted 1 tries 1\nstep 1 on 1 mounted 0 1\nmounts 1\ntransaction 0 1 by js 1\ncreate 10 view frame 0 0 320 78 top=0 width=320 height=78 background=4278190080\ncreate 11 view frame 0 80 320 78 top=80 width=320 height=78 background=4278190096\ncreate 12 view frame 0 160 320 78 top=160 width=320 height=78 background=4278190112\ninsert 0 10 0\ninsert 0 11 1\ninsert 0 12 2\nviews 1\nview 10 in 0 at 0 view frame 0 0 320 78 top=0 width=320 height=78 background=4278190080\nview 11 in 0 at 1 view frame 0 80 320 78 top=80 width=320 height=78 background=4278190096\nview 12 in 0 at 2 view frame 0 160 320 78 top=160 width=320 height=78 background=4278190112\nend\n";
+
+#[test]
+fn a_first_screen_in_pieces(rt: HostRuntime) {
+    for most in [1, 2, 997, 65_536] {
+        let mut out = sink(&rt, 10_000, most, &[]);
+        let mut err = sink(&rt, 0, 1, &[]);
+        let source = source(&rt, FIRST_SCREEN.as_bytes(), most, &[]);
+        assert_eq!(rt; status_of(&rt, &["turns"], source, &mut out, &mut err), 0);
+        assert_eq!(rt;
+            text_of(&rt, out.bytes()),
+            FIRST_SCREEN_REPORT,
+            "{most} bytes a call"
+        );
+    }
+}
+
+#[test]
+fn a_first_screen_whose_calls_fail(rt: HostRuntime) {
+    let script = FIRST_SCREEN.as_bytes();
+    for call in 0..script.len() as u64 / 64 + 2 {
+        let mut out = sink(&rt, 10_000, 100, &[]);
+        let mut err = sink(&rt, 100, 100, &[]);
+        let source = source(&rt, script, 64, &[call]);
+        assert_eq!(rt; status_of(&rt, &["turns"], source, &mut out, &mut err), 3);
+        assert!(rt; out.bytes().is_empty());
+    }
+    let report = FIRST_SCREEN_REPORT.as_bytes();
+    // Each call takes a byte.
+    for call in 0..report.len() {
+        let mut out = sink(&rt, 10_000, 1, &[call as u64]);
+        let mut err = sink(&rt, 100, 100, &[]);
+        let source = source(&rt, script, 65_536, &[]);
+        assert_eq!(rt; status_of(&rt, &["turns"], source, &mut out, &mut err), 4);
+        assert_eq!(rt; out.bytes(), &report[..call]);
+    }
+}
+
+#[test]
+fn a_failed_error_stream_changes_no_status(rt: HostRuntime) {
+    let none: &[u64] = &[];
+    let first: &[u64] = &[0];
+    for (word, script, unread, unwritten, status) in [
+        ("turns", UNKNOWN_WORD, none, none, 1),
+        ("paint", EMPTY_TREE, none, none, 2),
+        ("turns", EMPTY_TREE, first, none, 3),
+        ("turns", EMPTY_TREE, none, first, 4),
+    ] {
+        for call in 0..5 {
+            let mut out = sink(&rt, 1_000, 100, unwritten);
+            let mut err = sink(&rt, 100, 1, &[call]);
+            let source = source(&rt, script.as_bytes(), 997, unread);
+            assert_eq!(rt; status_of(&rt, &[word], source, &mut out, &mut err), status);
+            assert!(rt; out.bytes().is_empty());
+            assert_eq!(rt; err.bytes().len() as u64, call);
+        }
+    }
+}
+
 /// What a report comes to on one surface.
 #[derive(Clone, Copy, Default)]
 struct Counts {
