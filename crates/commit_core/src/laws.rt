@@ -3,6 +3,7 @@
 ghost use Rattle.std.specs.Prelude.{◌≡◌, ℕ, ◌+◌, ◌-◌, ◌≤◌, length, Option, Some, None};
 ghost use Rattle.tree_revision.specs.Records.{PlainRecord};
 ghost use Rattle.tree_revision.specs.Settled.{KeptRevision};
+ghost use Rattle.tree_revision.specs.Wishes.{Wish};
 ghost use Rattle.tree_revision.specs.Ports.{Told, BeginsWith, Lasts};
 ghost use Rattle.tree_revision.specs.declared.record.Cancel.{Cancel};
 ghost use Rattle.commit_core.specs.declared.committer.Progress.{Progress};
@@ -13,22 +14,22 @@ ghost use Rattle.commit_core.specs.Commit.{PlainCommit, entry_under_way, looked_
 ghost use Rattle.commit_core.specs.Events.{IsReadyFor, IsEvent, IsCancelledLook, IsAdmittedOffer};
 ghost use Rattle.commit_core.specs.Tries.{clear_numbers, TriesHaveClearNumbers};
 
-/// Each try of a commit has a number of its own at which it had no cause, from any number on that
+/// Whatever is wished of it, each try of a commit has a number of its own at which it had no cause, from any number on that
 /// was seen before its first look: so it is at the start, so it stays over each event and whatever
 /// else the port comes to, and so it is told at the end.
 pub fn tries_have_clear_numbers()
-    ensures starts { (from : ℕ) (told : Told) (commit : PlainCommit) → commit.tries ≡ 0 → looked_at commit ≡ None → TriesHaveClearNumbers from told commit }
-    ensures lasts { (old new : Told) (commit : PlainCommit) (from : ℕ) → Lasts old new → TriesHaveClearNumbers from old commit → TriesHaveClearNumbers from new commit }
-    ensures goes_on { (old new : Told) (before after : PlainCommit) (progress : Progress) (from : ℕ) → from ≤ length old.seen → Lasts old new → IsEvent old new before after progress → TriesHaveClearNumbers from old before → TriesHaveClearNumbers from new after }
-    ensures cancelled { (old new : Told) (before after : PlainCommit) (number count from : ℕ) (found : Cancel) (entry : PlainRecord) → Lasts old new → IsCancelledLook old new before after number count found → TriesHaveClearNumbers from old before → entry_under_way before ≡ Some entry → (1 ≤ count) × (count ≤ clear_numbers old.first new.seen entry from number + 1) }
-    ensures admitted { (old new : Told) (before after : PlainCommit) (number count from : ℕ) (share : Option KeptRevision) → from ≤ length old.seen → Lasts old new → (event : IsAdmittedOffer old new before after number count share) → TriesHaveClearNumbers from old before → (1 ≤ count) × (count ≤ clear_numbers old.first new.seen event.entry from (number - 1) + 1) }
+    ensures starts { (wish : Wish) (from : ℕ) (told : Told) (commit : PlainCommit) → commit.tries ≡ 0 → looked_at commit ≡ None → TriesHaveClearNumbers wish from told commit }
+    ensures lasts { (wish : Wish) (old new : Told) (commit : PlainCommit) (from : ℕ) → Lasts old new → TriesHaveClearNumbers wish from old commit → TriesHaveClearNumbers wish from new commit }
+    ensures goes_on { (wish : Wish) (old new : Told) (before after : PlainCommit) (progress : Progress) (from : ℕ) → from ≤ length old.seen → Lasts old new → IsEvent wish old new before after progress → TriesHaveClearNumbers wish from old before → TriesHaveClearNumbers wish from new after }
+    ensures cancelled { (wish : Wish) (old new : Told) (before after : PlainCommit) (number count from : ℕ) (found : Cancel) (entry : PlainRecord) → Lasts old new → IsCancelledLook wish old new before after number count found → TriesHaveClearNumbers wish from old before → entry_under_way before ≡ Some entry → (1 ≤ count) × (count ≤ clear_numbers wish old.first new.seen entry from number + 1) }
+    ensures admitted { (wish : Wish) (old new : Told) (before after : PlainCommit) (number count from : ℕ) (share : Option KeptRevision) → from ≤ length old.seen → Lasts old new → (event : IsAdmittedOffer wish old new before after number count share) → TriesHaveClearNumbers wish from old before → (1 ≤ count) × (count ≤ clear_numbers wish old.first new.seen event.entry from (number - 1) + 1) }
 {}
 
 /// A commit that is ready stays so as the port goes on: one that is to look whatever comes, and one
 /// that is to be offered while nothing more is seen.
 pub fn a_ready_commit_stays_ready()
-    ensures looks { (old new : Told) (commit : PlainCommit) → Lasts old new → looked_at commit ≡ None → IsReadyFor old commit → IsReadyFor new commit }
-    ensures offers { (old new : Told) (commit : PlainCommit) → Lasts old new → new.seen ≡ old.seen → IsReadyFor old commit → IsReadyFor new commit }
+    ensures looks { (wish : Wish) (old new : Told) (commit : PlainCommit) → Lasts old new → looked_at commit ≡ None → IsReadyFor wish old commit → IsReadyFor wish new commit }
+    ensures offers { (wish : Wish) (old new : Told) (commit : PlainCommit) → Lasts old new → new.seen ≡ old.seen → IsReadyFor wish old commit → IsReadyFor wish new commit }
 {}
 
 /// As others commit on a history in one hand, a pass has seen the same, and no count falls.

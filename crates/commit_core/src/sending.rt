@@ -5,11 +5,13 @@ ghost use denote.Param.Send.{IsSend};
 ghost use Rattle.tree_revision.specs.contracts.record.Record as record_type;
 ghost use Rattle.tree_revision.specs.contracts.revision.Revision as revision_type;
 ghost use Rattle.commit_core.specs.contracts.committer.Committer as commit_type;
+ghost use Rattle.commit_core.specs.contracts.committer.HookedCommitter as hooked_type;
 ghost use Rattle.commit_core.specs.contracts.committer.Phase as phase_type;
 ghost use Rattle.commit_core.specs.contracts.committer.ReadyCommit as ready_type;
 
-use crate::committer::{Committer, Phase, ReadyCommit};
-use tree_revision::{Record, Revision};
+use crate::committer::{Committer, HookedCommitter, Phase, ReadyCommit};
+use std::sync::Arc;
+use tree_revision::{Op, Record, Revision};
 
 /// A value of that type may go to another thread.
 fn needs_send<T: Send>(_none: Option<&T>)
@@ -36,6 +38,7 @@ fn ready_commits_are_sent()
 {
     records_are_sent();
     revisions_are_sent();
+    needs_send::<Arc<Op>>(None);
     needs_send::<ReadyCommit>(None);
 }
 
@@ -48,11 +51,19 @@ fn phases_are_sent()
     needs_send::<Phase>(None);
 }
 
+/// A commit under way that asks for what is wished may go to another thread.
+pub fn hooked_commits_are_sent()
+    ensures { IsSend (as_row hooked_type.the_field) }
+{
+    phases_are_sent();
+    revisions_are_sent();
+    needs_send::<HookedCommitter>(None);
+}
+
 /// A commit under way may go to another thread.
 pub fn commits_are_sent()
     ensures { IsSend (as_row commit_type.the_field) }
 {
-    phases_are_sent();
-    revisions_are_sent();
+    hooked_commits_are_sent();
     needs_send::<Committer>(None);
 }

@@ -5,7 +5,7 @@ use Rattle.tree_revision.specs.Script.{PlainScript}
 use Rattle.tree_revision.specs.Sound.{IsSoundScript}
 use Rattle.run_report.specs.Journal.{PlainJournal}
 use Rattle.run_report.specs.Legal.{IsLegal, IsLegalOn}
-use Rattle.run_report.specs.Wishes.{as_written}
+use Rattle.tree_revision.specs.Wishes.{as_written}
 use Rattle.fabric_run.specs.Steps.{MayBeFollowed, MayBeRebuilt}
 use Rattle.fabric_run.proofs.Zipped.{zip_weaker, zip_with_all}
 

@@ -14,6 +14,7 @@ use Rattle.tree_revision.specs.declared.record.Cancel.{Cancel}
 use Rattle.tree_revision.specs.declared.record.Answer.{Answer}
 use Rattle.tree_revision.specs.declared.record.Answer.TheVariants.{Held, Admitted, Cancelled, Mounted, Empty}
 use Rattle.commit_core.specs.Commit.{PlainCommit, entry_under_way, looked_at}
+use Rattle.tree_revision.specs.Wishes.{as_written}
 use Rattle.commit_core.specs.Events.{cause_after, IsClearLook, IsCancelledLook, IsAdmittedOffer, IsLateOffer, IsBusyEvent, IsLookInVain, IsEnd}
 use Rattle.mount_coordinator.specs.Mounted.{PlainCoordinator}
 use Rattle.run_report.specs.Machine.{SurfaceNow, ActorNow, moment, answered, looked_with, after_commit, after_event}
@@ -27,8 +28,8 @@ use Rattle.run_actor.specs.Steps.{MayGoOn, HasGoneOn, HasEnded}
 use Rattle.run_actor.proofs.Acts.{same_op, holding_lasts, stays_same, order_answered, elsewhere_answered}
 
 -- a commit that ended with a revision was admitted
-pub admitted_end : (old new : Told) (before after : PlainCommit) (answer : Answer) (now : KeptRevision) → IsEnd old new before after answer (Some now)
-    → (number : ℕ) × (tries : ℕ) × (answer ≡ Admitted number tries) × IsAdmittedOffer old new before after number tries (Some now)
+pub admitted_end : (old new : Told) (before after : PlainCommit) (answer : Answer) (now : KeptRevision) → IsEnd as_written old new before after answer (Some now)
+    → (number : ℕ) × (tries : ℕ) × (answer ≡ Admitted number tries) × IsAdmittedOffer as_written old new before after number tries (Some now)
 admitted_end old new before after (Held at) now e = absurd e
 admitted_end old new before after (Admitted number tries) now e = (number, tries, refl, e)
 admitted_end old new before after (Cancelled at tries cause) now e = absurd (none-some now (sym e.1))
@@ -36,8 +37,8 @@ admitted_end old new before after (Mounted base to) now e = absurd e
 admitted_end old new before after (Empty at) now e = absurd e
 
 -- a commit that ended with none was cancelled
-pub cancelled_end : (old new : Told) (before after : PlainCommit) (answer : Answer) → IsEnd old new before after answer None
-    → (at : ℕ) × (tries : ℕ) × (cause : Cancel) × (answer ≡ Cancelled at tries cause) × IsCancelledLook old new before after at tries cause
+pub cancelled_end : (old new : Told) (before after : PlainCommit) (answer : Answer) → IsEnd as_written old new before after answer None
+    → (at : ℕ) × (tries : ℕ) × (cause : Cancel) × (answer ≡ Cancelled at tries cause) × IsCancelledLook as_written old new before after at tries cause
 cancelled_end old new before after (Held at) e = absurd e
 cancelled_end old new before after (Admitted number tries) e = absurd (none-some e.revision e.now)
 cancelled_end old new before after (Cancelled at tries cause) e = (at, tries, cause, refl, e.0)
@@ -68,13 +69,13 @@ module _ (id : ℕ) (op : PlainOp) (old new : Told) (lasts : Lasts old new) (act
   is_its : (e : Option PlainRecord) → e ≡ Some (commit_record id may.op actor) → e ≡ Some (commit_record id op actor)
   is_its e is = is ∙ ap (λ op. Some (commit_record id op actor)) own
 
-  pub went_clear : (number : ℕ) → IsClearLook old new under under' number → HasGoneOn id (commit op) old new (with_commit (Some under) actor) (with_commit (Some under') actor) Did
+  pub went_clear : (number : ℕ) → IsClearLook as_written old new under under' number → HasGoneOn id (commit op) old new (with_commit (Some under) actor) (with_commit (Some under') actor) Did
   went_clear number clear_look =
       let surface : ℕ → SurfaceNow = surface_told id new in
       let now : ActorNow = actor_now (with_commit (Some under) actor) in
       let free : cancel_of new.first op new.seen (number_held_by actor) ≡ None =
       ap (λ first. cancel_of first op new.seen (number_held_by actor)) lasts.first
-      ∙ sym (ap (cause_after old.first new.seen) (is_its _ may.under_way.entry_is)) ∙ clear_look.clear in
+      ∙ sym (ap (cause_after as_written old.first new.seen) (is_its _ may.under_way.entry_is)) ∙ clear_look.clear in
       record {
         event = λ mounted. (
           inl (record {
@@ -93,7 +94,7 @@ module _ (id : ℕ) (op : PlainOp) (old new : Told) (lasts : Lasts old new) (act
       number_held_by : RunningActor → ℕ
       number_held_by actor = (commit_record id op actor).held
 
-  pub went_late : (found : ℕ) → IsLateOffer old new under under' found → HasGoneOn id (commit op) old new (with_commit (Some under) actor) (with_commit (Some under') actor) Did
+  pub went_late : (found : ℕ) → IsLateOffer as_written old new under under' found → HasGoneOn id (commit op) old new (with_commit (Some under) actor) (with_commit (Some under') actor) Did
   went_late found late =
       let now : ActorNow = actor_now (with_commit (Some under) actor) in
       record {
@@ -111,7 +112,7 @@ module _ (id : ℕ) (op : PlainOp) (old new : Told) (lasts : Lasts old new) (act
         elsewhere = kept_elsewhere;
       }
 
-  pub went_busy : IsBusyEvent old new under under' → HasGoneOn id (commit op) old new (with_commit (Some under) actor) (with_commit (Some under') actor) Busy
+  pub went_busy : IsBusyEvent as_written old new under under' → HasGoneOn id (commit op) old new (with_commit (Some under) actor) (with_commit (Some under') actor) Busy
   went_busy event = record {
     event = λ mounted. record {
       as_before = record { coordinator = refl; actor = ap (λ (commit : PlainCommit). with_commit (Some commit) actor) event.as_before.same };
@@ -125,7 +126,7 @@ module _ (id : ℕ) (op : PlainOp) (old new : Told) (lasts : Lasts old new) (act
     elsewhere = kept_elsewhere;
   }
 
-  pub went_in_vain : IsLookInVain old new under under' → HasGoneOn id (commit op) old new (with_commit (Some under) actor) (with_commit (Some under') actor) Memory
+  pub went_in_vain : IsLookInVain as_written old new under under' → HasGoneOn id (commit op) old new (with_commit (Some under) actor) (with_commit (Some under') actor) Memory
   went_in_vain event = record {
     event = λ mounted. record {
       as_before = record { coordinator = refl; actor = ap (λ (commit : PlainCommit). with_commit (Some commit) actor) event.as_before.same };
@@ -139,14 +140,14 @@ module _ (id : ℕ) (op : PlainOp) (old new : Told) (lasts : Lasts old new) (act
     elsewhere = kept_elsewhere;
   }
 
-  went_cancelled_at : (at tries : ℕ) (cause : Cancel) → IsCancelledLook old new under under' at tries cause
+  went_cancelled_at : (at tries : ℕ) (cause : Cancel) → IsCancelledLook as_written old new under under' at tries cause
       → HasGoneOn id (commit op) old new (with_commit (Some under) actor) (answered_as id (Cancelled at tries cause) actor) Did
   went_cancelled_at at tries cause look =
       let now : ActorNow = actor_now (with_commit (Some under) actor) in
       let held : ℕ = (commit_record id op actor).held in
       let found : cancel_of new.first op new.seen held ≡ Some cause =
       ap (λ first. cancel_of first op new.seen held) lasts.first
-      ∙ sym (ap (cause_after old.first new.seen) (is_its _ may.under_way.entry_is)) ∙ look.cause in
+      ∙ sym (ap (cause_after as_written old.first new.seen) (is_its _ may.under_way.entry_is)) ∙ look.cause in
       record {
         event = λ mounted. (
           inl (record {
@@ -162,14 +163,14 @@ module _ (id : ℕ) (op : PlainOp) (old new : Told) (lasts : Lasts old new) (act
         elsewhere = elsewhere_answered id (Cancelled at tries cause) (with_commit (Some under) actor) actor refl (λ other off. refl);
       }
 
-  pub went_cancelled : (answer : Answer) (now : Option KeptRevision) (after : RunningActor) → now ≡ None → IsEnd old new under under' answer now → after ≡ answered_as id answer actor
+  pub went_cancelled : (answer : Answer) (now : Option KeptRevision) (after : RunningActor) → now ≡ None → IsEnd as_written old new under under' answer now → after ≡ answered_as id answer actor
       → HasGoneOn id (commit op) old new (with_commit (Some under) actor) after Did
   went_cancelled answer now after none end after_is =
-      let e = cancelled_end old new under under' answer (subst (IsEnd old new under under' answer) none end) in
+      let e = cancelled_end old new under under' answer (subst (IsEnd as_written old new under under' answer) none end) in
       subst (λ after. HasGoneOn id (commit op) old new (with_commit (Some under) actor) after Did) (sym (after_is ∙ ap (λ answer. answered_as id answer actor) e.3))
       (went_cancelled_at e.0 e.1 e.2 e.4)
 
-  went_admitted_as : (number tries : ℕ) (now : KeptRevision) (mid : RunningActor) → IsAdmittedOffer old new under under' number tries (Some now) → revision_held id mid ≡ Some now
+  went_admitted_as : (number tries : ℕ) (now : KeptRevision) (mid : RunningActor) → IsAdmittedOffer as_written old new under under' number tries (Some now) → revision_held id mid ≡ Some now
       → ((other : ℕ) → nat_eq id other ≡ false → revision_held other mid ≡ revision_held other actor) → mid ≡ with_held mid.held actor
       → HasGoneOn id (commit op) old new (with_commit (Some under) actor) (answered_as id (Admitted number tries) (with_held mid.held actor)) Did
   went_admitted_as number tries now mid offer held others mid_is =
@@ -196,17 +197,17 @@ module _ (id : ℕ) (op : PlainOp) (old new : Told) (lasts : Lasts old new) (act
         elsewhere = elsewhere_answered id (Admitted number tries) (with_commit (Some under) actor) (with_held mid.held actor) refl others;
       }
 
-  pub went_admitted : (answer : Answer) (found : Option KeptRevision) (now : KeptRevision) (mid after : RunningActor) → found ≡ Some now → IsEnd old new under under' answer found
+  pub went_admitted : (answer : Answer) (found : Option KeptRevision) (now : KeptRevision) (mid after : RunningActor) → found ≡ Some now → IsEnd as_written old new under under' answer found
       → revision_held id mid ≡ Some now → ((other : ℕ) → nat_eq id other ≡ false → revision_held other mid ≡ revision_held other actor) → mid ≡ with_held mid.held actor
       → after ≡ answered_as id answer mid → HasGoneOn id (commit op) old new (with_commit (Some under) actor) after Did
   went_admitted answer found now mid after some end held others mid_is after_is =
-      let e = admitted_end old new under under' answer now (subst (IsEnd old new under under' answer) some end) in
+      let e = admitted_end old new under under' answer now (subst (IsEnd as_written old new under under' answer) some end) in
       subst (λ after. HasGoneOn id (commit op) old new (with_commit (Some under) actor) after Did)
       (sym (after_is ∙ (λ i. answered_as id (e.2 i) (mid_is i))))
       (went_admitted_as e.0 e.1 now mid e.3 held others mid_is)
 
   -- a commit that has ended, either way
-  pub went_done : (answer : Answer) (now : Option KeptRevision) (after : RunningActor) → IsEnd old new under under' answer now → HasEnded id answer now actor after
+  pub went_done : (answer : Answer) (now : Option KeptRevision) (after : RunningActor) → IsEnd as_written old new under under' answer now → HasEnded id answer now actor after
       → HasGoneOn id (commit op) old new (with_commit (Some under) actor) after Did
   went_done answer (Some now) after end ended =
       went_admitted answer (Some now) now (with_held after.held actor) after refl end ended.held ended.others refl ended.is

@@ -15,7 +15,7 @@ use Rattle.run_report.specs.declared.journal.StepPart.{StepPart}
 use Rattle.run_report.specs.Legal.{Answers, TakenStep}
 use Rattle.run_report.specs.Mounts.{passages_by}
 use Rattle.run_report.specs.Shorthands.{begun as before_first}
-use Rattle.run_report.specs.Wishes.{as_written}
+use Rattle.tree_revision.specs.Wishes.{as_written}
 use Rattle.run_report.specs.ActorLegal.{IsLegalSoFar, MountsFollow, admitted_records, record_named, looks_named, looks_so_far, looks_under_way, tries_of as tries_at}
 use Rattle.run_report.proofs.Begun.{legal_begun}
 use Rattle.run_report.proofs.EventLegal.{first_left}

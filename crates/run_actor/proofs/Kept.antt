@@ -14,7 +14,7 @@ use Rattle.run_report.specs.declared.journal.StepPart.{StepPart}
 use Rattle.run_report.specs.Journal.{PlainMount}
 use Rattle.run_report.specs.Legal.{FollowOn, AreMountsOn}
 use Rattle.run_report.specs.Mounts.{Passage, passages_by, last_to, mount_along}
-use Rattle.run_report.specs.Wishes.{as_written}
+use Rattle.tree_revision.specs.Wishes.{as_written}
 use Rattle.tree_revision.specs.Mountable.{mountable_of}
 use Rattle.run_report.specs.ActorLegal.{IsLegalSoFar, MountsFollow, NamesTheSame}
 use Rattle.run_report.proofs.Begins.{begins_both}

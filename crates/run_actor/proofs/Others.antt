@@ -13,7 +13,7 @@ use Rattle.mount_coordinator.specs.declared.coordinator.Pulled.TheVariants.{Tran
 use Rattle.run_report.specs.Points.{number_held}
 use Rattle.run_report.specs.Machine.{SurfaceNow, ActorNow, Moment, moment, answered, after_commit, after_event}
 use Rattle.run_report.specs.Shorthands.{trying, recorded}
-use Rattle.run_report.specs.Wishes.{as_written}
+use Rattle.tree_revision.specs.Wishes.{as_written}
 use Rattle.run_report.specs.ActorLegal.{IsLegalSoFar, NamesTheSame}
 use Rattle.run_report.proofs.EventLegal.{event_elsewhere as legal_elsewhere}
 use Rattle.run_report.proofs.EventNames.{event_same}

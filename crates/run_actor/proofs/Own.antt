@@ -30,7 +30,7 @@ use Rattle.run_report.specs.Points.{number_held}
 use Rattle.run_report.specs.Machine.{SurfaceNow, ActorNow, Moment, moment, answered, looked_with, after_commit, after_event}
 use Rattle.run_report.specs.Mounts.{Passage, passage_of, passages_by, last_to, mount_along}
 use Rattle.run_report.specs.Shorthands.{trying, recorded, mounted_at, passage}
-use Rattle.run_report.specs.Wishes.{as_written}
+use Rattle.tree_revision.specs.Wishes.{as_written}
 use Rattle.run_report.specs.ActorLegal.{GoesThrough, PassagesFollowOn, MountsFollow, IsLegalSoFar, MayTakeEvent, IsLegalAfter, NamesItsEvent, NamesTheSame, looks_at, looks_so_far, admitted_records}
 use Rattle.run_report.proofs.Begins.{begins_self}
 use Rattle.run_report.proofs.Looks.{number_held-push}

@@ -6,6 +6,7 @@ use Rattle.tree_revision.specs.Script.{PlainAct, commit, hold, mount, PlainStep}
 use Rattle.tree_revision.specs.Settled.{KeptRevision}
 use Rattle.tree_revision.specs.Stands.{StandsFor}
 use Rattle.tree_revision.specs.Ports.{Told, HasLooked, Stays, IsOffer}
+use Rattle.tree_revision.specs.Wishes.{as_written}
 use Rattle.commit_core.specs.Commit.{PlainCommit, entry_under_way}
 use Rattle.commit_core.specs.Events.{IsReadyFor}
 use Rattle.mount_coordinator.specs.Mounted.{PlainCoordinator, IsBaseIn}
@@ -39,7 +40,7 @@ pub record IsHolding (told : Told) (id : ℕ) (actor : RunningActor) : Type 0 wh
 -- a commit under way is of that record, and is ready for its next event
 pub record IsUnderWay (told : Told) (entry : PlainRecord) (under : PlainCommit) : Type 0 where
   pub entry_is : entry_under_way under ≡ Some entry
-  pub ready : IsReadyFor told under
+  pub ready : IsReadyFor as_written told under
 
 -- an actor is in order on the surface of that id, whose port tells this, and has reached what is seen: it holds a revision there, and where its step is a commit there that has begun, that is under way
 pub record IsInOrder (told : Told) (id : ℕ) (actor : RunningActor) : Type 0 where

@@ -4,7 +4,7 @@ use Rattle.counts.specs.Raised.{raised}
 use Rattle.tree_revision.specs.Script.{PlainAct}
 use Rattle.tree_revision.specs.Ports.{Told, Lasts}
 use Rattle.mount_coordinator.specs.Mounted.{PlainCoordinator}
-use Rattle.run_report.specs.Wishes.{as_written}
+use Rattle.tree_revision.specs.Wishes.{as_written}
 use Rattle.run_report.specs.Mounts.{passages_by}
 use Rattle.run_report.specs.ActorLegal.{GoesThrough, MountsFollow, IsLegalSoFar, looks_so_far}
 use Rattle.run_actor.specs.Actors.{RunningActor, actor_now}

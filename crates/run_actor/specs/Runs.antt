@@ -9,7 +9,7 @@ use Rattle.mount_coordinator.specs.Mounted.{PlainCoordinator, IsBaseIn}
 use Rattle.run_report.specs.declared.journal.MountPart.{MountPart}
 use Rattle.run_report.specs.Journal.{PlainMount, plain_mount}
 use Rattle.run_report.specs.Legal.{Answers}
-use Rattle.run_report.specs.Wishes.{as_written}
+use Rattle.tree_revision.specs.Wishes.{as_written}
 use Rattle.run_report.specs.Mounts.{Passage, passages_by, last_to}
 use Rattle.run_report.specs.ActorLegal.{AreLegalAnswers, MountsFollow, admitted_records, looks_named}
 use Rattle.run_actor.specs.Actors.{RunningActor}

@@ -20,7 +20,7 @@ use Rattle.tree_revision.specs.Ports.{Told}
 use Rattle.tree_revision.specs.Stands.{StandsFor}
 use Rattle.mount_coordinator.specs.Mounted.{PlainCoordinator, IsBaseIn, IsBaseOf}
 use Rattle.run_report.specs.ActorLegal.{AreLegalAnswers, MountsFollow}
-use Rattle.run_report.specs.Wishes.{as_written}
+use Rattle.tree_revision.specs.Wishes.{as_written}
 use Rattle.run_report.specs.Mounts.{Passage, passages_by}
 use Rattle.script_read.specs.Plain.{plain_act, plain_step}
 use Rattle.script_read.specs.declared.script.Act.{Act}

@@ -16,7 +16,7 @@ use Rattle.mount_coordinator.specs.Mounted.{PlainCoordinator, IsBaseIn}
 use Rattle.mount_coordinator.proofs.Mounting.{still_base}
 use Rattle.run_report.specs.Mounts.{Passage, last_to, passages_by}
 use Rattle.run_report.specs.Shorthands.{begun}
-use Rattle.run_report.specs.Wishes.{as_written}
+use Rattle.tree_revision.specs.Wishes.{as_written}
 use Rattle.run_report.specs.ActorLegal.{AreLegalAnswers, looks_named}
 use Rattle.run_report.proofs.Begins.{begins_both}
 use Rattle.run_report.proofs.EventNames.{records_over_more}

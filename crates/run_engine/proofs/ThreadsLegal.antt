@@ -21,7 +21,7 @@ use Rattle.run_report.specs.Journal.{PlainActorPart, PlainSurfacePart, plain_mou
 use Rattle.run_report.specs.Machine.{actor_part_of}
 use Rattle.run_report.specs.Mounts.{mount_along, closed}
 use Rattle.run_report.specs.Shorthands.{passages_named}
-use Rattle.run_report.specs.Wishes.{as_written}
+use Rattle.tree_revision.specs.Wishes.{as_written}
 use Rattle.run_report.specs.Legal.{Answers, HasFormOf, IsLegal}
 use Rattle.run_report.specs.Named.{NamesItsActors}
 use Rattle.run_report.specs.ActorLegal.{AreLegalAnswers, IsAdmittedBySome, IsLegalActorOn, IsPutTogether, PassagesFollowOn, MountsFollow}

@@ -12,7 +12,7 @@ use Rattle.tree_revision.specs.Sound.{HasOneMounter, mounts_on}
 use Rattle.tree_revision.specs.Lawful.{IsLawful}
 use Rattle.tree_revision.specs.Ports.{BeginsWith}
 use Rattle.mount_coordinator.specs.Mounted.{PlainCoordinator, IsBaseIn, IsBaseOf}
-use Rattle.run_report.specs.Wishes.{as_written}
+use Rattle.tree_revision.specs.Wishes.{as_written}
 use Rattle.run_report.specs.Mounts.{Passage, passages_by, last_to}
 use Rattle.run_report.specs.Shorthands.{begun}
 use Rattle.run_report.specs.ActorLegal.{AreLegalAnswers, MountsFollow, looks_named}

@@ -8,7 +8,7 @@ use Rattle.tree_revision.specs.Script.{PlainActor, PlainSurface, PlainScript}
 use Rattle.tree_revision.specs.Sound.{ids_of}
 use Rattle.mount_coordinator.specs.Mounted.{PlainCoordinator, IsBaseIn}
 use Rattle.run_report.specs.Legal.{Answers}
-use Rattle.run_report.specs.Wishes.{as_written}
+use Rattle.tree_revision.specs.Wishes.{as_written}
 use Rattle.run_report.specs.Mounts.{Passage, passages_by, last_to}
 use Rattle.run_report.specs.Shorthands.{begun}
 use Rattle.run_report.specs.ActorLegal.{AreLegalAnswers, MountsFollow, admitted_records, looks_named}

@@ -13,7 +13,7 @@ use Rattle.run_report.specs.Points.{point_before, number_held}
 use Rattle.run_report.specs.Shorthands.{number_mounted, trying}
 use Rattle.run_report.specs.Legal.{cancel_for_act}
 use Rattle.run_report.specs.Machine.{ActorNow, answered}
-use Rattle.run_report.specs.Wishes.{Wish}
+use Rattle.tree_revision.specs.Wishes.{Wish}
 use Rattle.run_report.specs.ActorLegal.{room_up_to, GoesThrough, HasLookedAt, HasTried, IsUnderWay, IsLegalSoFar}
 use Rattle.run_report.proofs.Lists.{count_one_more}
 use Rattle.run_report.proofs.Begins.{begins_self, begins_before}

@@ -12,7 +12,7 @@ use Rattle.run_report.specs.Points.{point_left, point_before, held_after, number
 use Rattle.run_report.specs.Legal.{Answers, TakenStep}
 use Rattle.run_report.specs.Machine.{ActorNow, answered}
 use Rattle.run_report.specs.Shorthands.{later, trying}
-use Rattle.run_report.specs.Wishes.{Wish}
+use Rattle.tree_revision.specs.Wishes.{Wish}
 use Rattle.run_report.specs.ActorLegal.{taken_by, GoesThrough, IsLegalStep, AreLegalAnswers, HasTried, IsUnderWay, IsLegalSoFar}
 use Rattle.run_report.proofs.Lists.{all_append}
 use Rattle.run_report.proofs.Pairs.{all_zip_push}

@@ -15,7 +15,7 @@ use Rattle.run_report.specs.Journal.{PlainActorPart}
 use Rattle.run_report.specs.Points.{number_held}
 use Rattle.run_report.specs.Legal.{TakenStep}
 use Rattle.run_report.specs.Machine.{ActorNow, actor_part_of}
-use Rattle.run_report.specs.Wishes.{Wish}
+use Rattle.tree_revision.specs.Wishes.{Wish}
 use Rattle.run_report.specs.ActorLegal.{taken_by, GoesThrough, record_named, admitted_records, IsAdmittedBySome}
 use Rattle.run_report.proofs.Lists.{slice_get-set_same, slice_get-set_other}
 use Rattle.run_report.proofs.Looks.{taken_step, taken_by-push}

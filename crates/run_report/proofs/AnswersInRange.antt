@@ -19,7 +19,7 @@ use Rattle.tree_revision.specs.declared.record.Answer.{Answer}
 use Rattle.tree_revision.specs.declared.record.Answer.TheVariants.{Held, Admitted, Cancelled, Mounted, Empty}
 use Rattle.tree_revision.proofs.Histories.{IsLawful-front}
 use Rattle.run_report.specs.Points.{look_point, first_mountable, point_before, number_held}
-use Rattle.run_report.specs.Wishes.{as_written}
+use Rattle.tree_revision.specs.Wishes.{as_written}
 use Rattle.run_report.specs.Legal.{TakenStep, cancel_for_act, HasCause, room_for_tries, HasRoomForTries}
 use Rattle.run_report.specs.Ranges.{IsCauseInRange, IsAnswerInRange}
 use Rattle.run_report.proofs.Lists.{all_true, all_found}

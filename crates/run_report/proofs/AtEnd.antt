@@ -8,7 +8,7 @@ use Rattle.tree_revision.specs.Sound.{IsSoundScript}
 use Rattle.run_report.specs.Legal.{IsHookLegal}
 use Rattle.run_report.specs.Machine.{RunNow, run_of, after_hooked_turn, ending_turns, journal_of_hooked_turns}
 use Rattle.run_report.specs.Shorthands.{after_hooked_turns}
-use Rattle.run_report.specs.Wishes.{Wish, KeepsRange}
+use Rattle.tree_revision.specs.Wishes.{Wish, KeepsRange}
 use Rattle.run_report.proofs.Kept.{IsHookedRun}
 use Rattle.run_report.proofs.Begun.{hooked_run_begun}
 use Rattle.run_report.proofs.Runs.{hooked_turns_kept}

@@ -11,7 +11,7 @@ use Rattle.run_report.specs.Mounts.{passages_by, last_to}
 use Rattle.run_report.specs.Shorthands.{passages_named, surface_at_start, begun}
 use Rattle.run_report.specs.Legal.{FollowOn}
 use Rattle.run_report.specs.Machine.{actor_part_of, run_of}
-use Rattle.run_report.specs.Wishes.{Wish, as_written}
+use Rattle.tree_revision.specs.Wishes.{Wish, as_written}
 use Rattle.run_report.proofs.Lists.{numbered_none, all_true, all_map}
 use Rattle.run_report.proofs.Pairs.{each_begun, all_zip_begun}
 use Rattle.run_report.proofs.Looks.{taken_after-none}

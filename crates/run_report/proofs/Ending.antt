@@ -14,7 +14,7 @@ use Rattle.tree_revision.specs.declared.record.Answer.TheVariants.{Admitted}
 use Rattle.run_report.specs.Points.{number_held}
 use Rattle.run_report.specs.Machine.{SurfaceNow, ActorNow, RunNow, Moment, answered, looked_with, after_commit, after_hooked_event, after_hooked_event_on, after_hooked_event_by, after_hooked_event_of, with_moment, after_hooked_turn, moment}
 use Rattle.run_report.specs.Shorthands.{later, trying, recorded, after_hooked_turns}
-use Rattle.run_report.specs.Wishes.{Wish, KeepsRange}
+use Rattle.tree_revision.specs.Wishes.{Wish, KeepsRange}
 use Rattle.run_report.proofs.Lists.{nil_is_not_cons, slice_get-set_same, slice_get-set_other, all_weaker, all_found, map_leaves}
 use Rattle.run_report.proofs.Kept.{IsHookedSurface, IsHookedRun}
 use Rattle.run_report.proofs.Runs.{found_only, same_ids, own_surface, at_step, hooked_turn_kept, hooked_turns_kept}

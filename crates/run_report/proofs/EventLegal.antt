@@ -22,7 +22,7 @@ use Rattle.run_report.specs.declared.journal.StepPart.{StepPart}
 use Rattle.run_report.specs.Points.{number_held, mounted_after}
 use Rattle.run_report.specs.Mounts.{Passage, passage_of, passages_by, last_to, mount_along}
 use Rattle.run_report.specs.Shorthands.{number_mounted, passage, passage_on, trying, recorded, mounted_at}
-use Rattle.run_report.specs.Wishes.{Wish}
+use Rattle.tree_revision.specs.Wishes.{Wish}
 use Rattle.run_report.specs.Legal.{IsAnswerTo, FollowOn}
 use Rattle.run_report.specs.Machine.{SurfaceNow, ActorNow, Moment, moment, answered, looked_with, after_commit, after_hooked_event}
 use Rattle.run_report.specs.ActorLegal.{GoesThrough, PassagesFollowOn, MountsFollow, IsLegalSoFar, MayTakeEvent, IsLegalAfter}

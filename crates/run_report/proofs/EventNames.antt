@@ -16,7 +16,7 @@ use Rattle.run_report.specs.declared.journal.StepPart.{StepPart}
 use Rattle.run_report.specs.Points.{look_point, point_before, number_held}
 use Rattle.run_report.specs.Mounts.{passage_of, passages_by}
 use Rattle.run_report.specs.Shorthands.{later, trying, recorded, mounted_at}
-use Rattle.run_report.specs.Wishes.{Wish}
+use Rattle.tree_revision.specs.Wishes.{Wish}
 use Rattle.run_report.specs.Legal.{TakenStep}
 use Rattle.run_report.specs.Machine.{SurfaceNow, ActorNow, Moment, moment, answered, looked_with, after_commit, after_hooked_event}
 use Rattle.run_report.specs.ActorLegal.{taken_by, GoesThrough, looks_of, looks_named, tries_of, looks_under_way, looks_so_far, looks_at, IsLegalStep, AreLegalAnswers, record_named, admitted_records, NamesItsEvent, NamesTheSame}

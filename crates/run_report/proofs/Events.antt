@@ -19,7 +19,7 @@ use Rattle.run_report.specs.declared.journal.StepName.{StepName}
 use Rattle.run_report.specs.declared.journal.StepPart.{StepPart}
 use Rattle.run_report.specs.Points.{number_held}
 use Rattle.run_report.specs.Mounts.{Passage, passages_by, last_to}
-use Rattle.run_report.specs.Wishes.{Wish, KeepsRange}
+use Rattle.tree_revision.specs.Wishes.{Wish, KeepsRange}
 use Rattle.run_report.specs.Shorthands.{passage, passage_on, passages_named, trying, recorded, mounted_at}
 use Rattle.run_report.specs.Legal.{FollowOn, cancel_for_act}
 use Rattle.run_report.specs.Machine.{SurfaceNow, ActorNow, actor_part_of, answered}

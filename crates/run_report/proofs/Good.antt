@@ -13,7 +13,7 @@ use Rattle.run_report.specs.Points.{first_mountable, point_before, number_held}
 use Rattle.run_report.specs.Shorthands.{number_mounted}
 use Rattle.run_report.specs.Legal.{cancel_for_act, name_of, record_at}
 use Rattle.run_report.specs.Machine.{ActorNow}
-use Rattle.run_report.specs.Wishes.{Wish}
+use Rattle.tree_revision.specs.Wishes.{Wish}
 use Rattle.run_report.specs.ActorLegal.{room_up_to, IsLegalStep, AreLegalAnswers, HasLookedAt, HasTried}
 use Rattle.run_report.proofs.Lists.{count_grows}
 use Rattle.run_report.proofs.Begins.{begins_push, begins_more}

@@ -18,7 +18,7 @@ use Rattle.tree_revision.specs.Mountable.{mountable_of}
 use Rattle.run_report.specs.declared.journal.StepPart.{StepPart}
 use Rattle.run_report.specs.Journal.{PlainMount, PlainActorPart, PlainSurfacePart, PlainJournal}
 use Rattle.run_report.specs.Mounts.{Passage, passage_in}
-use Rattle.run_report.specs.Wishes.{as_written}
+use Rattle.tree_revision.specs.Wishes.{as_written}
 use Rattle.run_report.specs.Legal.{Answers, FollowOn, TakenStep, taken_after, taken_from, IsOfItsStep, LooksForward, HasRoomForTries, HasCause, AreMountsOn, IsLegalOn, IsLegal}
 use Rattle.run_report.specs.Ranges.{IsCallInRange, IsMutationInRange, IsMountInRange, IsPlacedInRange, IsRecordInRange, IsPartInRange, IsAnswerInRange, AreAnswersInRange, IsInRange}
 use Rattle.run_report.proofs.Lists.{all_append, all_kept, all_map, all_unmap, all_weaker}

@@ -10,7 +10,7 @@ use Rattle.tree_revision.specs.Mountable.{mountable_of}
 use Rattle.run_report.specs.Journal.{PlainActorPart}
 use Rattle.run_report.specs.Shorthands.{number_mounted, passages_named}
 use Rattle.run_report.specs.Mounts.{last_to}
-use Rattle.run_report.specs.Wishes.{Wish, as_written}
+use Rattle.tree_revision.specs.Wishes.{Wish, as_written}
 use Rattle.run_report.specs.Legal.{FollowOn}
 use Rattle.run_report.specs.Machine.{SurfaceNow, ActorNow, RunNow, actor_part_of}
 use Rattle.run_report.specs.ActorLegal.{GoesThrough, IsLegalSoFar, IsAdmittedBySome}

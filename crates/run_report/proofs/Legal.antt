@@ -7,7 +7,7 @@ use Rattle.tree_revision.specs.Script.{PlainActor, PlainScript}
 use Rattle.tree_revision.specs.Sound.{mounts_on, IsSoundScript}
 use Rattle.tree_revision.specs.Mountable.{mountable_of}
 use Rattle.run_report.specs.Mounts.{passages_by, last_to}
-use Rattle.run_report.specs.Wishes.{Wish}
+use Rattle.tree_revision.specs.Wishes.{Wish}
 use Rattle.run_report.specs.Shorthands.{passages_named}
 use Rattle.run_report.specs.Legal.{Answers, HasFormOf, FollowOn, IsHookLegal}
 use Rattle.run_report.specs.Machine.{SurfaceNow, ActorNow, RunNow, actor_part_of, surface_part_of, journal_at_end}

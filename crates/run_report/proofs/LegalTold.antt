@@ -18,7 +18,7 @@ use Rattle.run_report.specs.Named.{IsByActor, NamesActors, NamesItsActors}
 use Rattle.run_report.specs.Mounts.{Passage, passage_of, passages_by, passages_on, last_to, passage_in}
 use Rattle.run_report.specs.Shorthands.{passage, passage_on, passages_named}
 use Rattle.run_report.specs.Legal.{Answers, IsOfItsStep, CommitsStandOnce, IsLegalOn, IsLegal}
-use Rattle.run_report.specs.Wishes.{as_written}
+use Rattle.tree_revision.specs.Wishes.{as_written}
 use Rattle.run_report.specs.Ranges.{IsInRange}
 use Rattle.run_report.specs.Readable.{HasNames, IsReadable}
 

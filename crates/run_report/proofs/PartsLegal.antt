@@ -17,7 +17,7 @@ use Rattle.run_report.specs.Journal.{PlainActorPart, PlainSurfacePart, PlainJour
 use Rattle.run_report.specs.Points.{number_held}
 use Rattle.run_report.specs.Mounts.{Passage, passages_by, passages_on, last_to, passage_in}
 use Rattle.run_report.specs.Shorthands.{passages_named}
-use Rattle.run_report.specs.Wishes.{Wish}
+use Rattle.tree_revision.specs.Wishes.{Wish}
 use Rattle.run_report.specs.Legal.{Answers, HasFormOf, TakenStep, taken_after, taken_from, taken_on, HasItsRecord, HasCause, HasRoomForTries, LooksForward, IsEmptyAt, IsOfItsStep, IsTrulyHeld, FollowOn, AreMountsOn, IsLegalOn}
 use Rattle.run_report.specs.ActorLegal.{taken_by, IsLegalStep, record_named, IsAdmittedBySome, IsPutTogether}
 use Rattle.run_report.proofs.Lists.{item_within, all_append, all_weaker, all_numbered, numbered_none, numbered_lone, one_passes}

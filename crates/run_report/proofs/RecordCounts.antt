@@ -14,7 +14,7 @@ use Rattle.tree_revision.specs.declared.record.Answer.{Answer}
 use Rattle.tree_revision.specs.declared.record.Answer.TheVariants.{Held, Admitted, Cancelled, Mounted, Empty}
 use Rattle.run_report.specs.declared.journal.StepPart.{StepPart}
 use Rattle.run_report.specs.Journal.{PlainActorPart, PlainSurfacePart, PlainJournal}
-use Rattle.run_report.specs.Wishes.{Wish}
+use Rattle.tree_revision.specs.Wishes.{Wish}
 use Rattle.run_report.specs.Legal.{Answers, HasFormOf, IsOfItsStep, IsLegalOn}
 use Rattle.run_report.proofs.Pairs.{all_zip_length}
 

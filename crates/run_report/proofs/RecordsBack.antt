@@ -9,7 +9,7 @@ use Rattle.tree_revision.specs.Script.{PlainAct, commit, hold, mount, PlainStep,
 use Rattle.tree_revision.specs.Sound.{is_name}
 use Rattle.run_report.specs.Journal.{PlainActorPart, PlainSurfacePart, PlainJournal}
 use Rattle.run_report.specs.Legal.{name_of, IsOfItsStep, CommitsStandOnce}
-use Rattle.run_report.specs.Wishes.{as_written}
+use Rattle.tree_revision.specs.Wishes.{as_written}
 use Rattle.run_report.specs.Shorthands.{step_named}
 use Rattle.run_report.specs.Text.{name_at, spaced, number_line, op_word_of, record_text, numbered}
 use Rattle.run_report.specs.TextParts.{records_text, histories_text}

@@ -10,7 +10,7 @@ use Rattle.tree_revision.specs.InRange.{IsStepInRange}
 use Rattle.tree_revision.specs.Sound.{ids_of, mounts_on, HasOneMounter, IsSoundScript}
 use Rattle.run_report.specs.Machine.{SurfaceNow, ActorNow, RunNow, Moment, after_hooked_event, after_hooked_event_on, after_hooked_event_by, after_hooked_event_of, with_moment, after_hooked_turn}
 use Rattle.run_report.specs.Shorthands.{after_hooked_turns}
-use Rattle.run_report.specs.Wishes.{Wish, as_written, KeepsRange}
+use Rattle.tree_revision.specs.Wishes.{Wish, as_written, KeepsRange}
 use Rattle.run_report.proofs.Lists.{item_within, all_at, all_unmap, slice_get_at, all_weaker, all_map, all_found}
 use Rattle.run_report.proofs.Pairs.{each_set, all_zip_become}
 use Rattle.run_report.proofs.Kept.{IsHookedSurface, IsActorOf, IsSurfaceOf, IsHookedRun, IsRunOf}

@@ -16,7 +16,7 @@ use Rattle.run_report.specs.declared.journal.StepPart.{StepPart}
 use Rattle.run_report.specs.Points.{mounted_after}
 use Rattle.run_report.specs.Shorthands.{number_mounted, passages_named, trying, step_named}
 use Rattle.run_report.specs.Mounts.{passage_of, passages_by, last_to}
-use Rattle.run_report.specs.Wishes.{Wish}
+use Rattle.tree_revision.specs.Wishes.{Wish}
 use Rattle.run_report.specs.Legal.{Answers, FollowOn}
 use Rattle.run_report.specs.Machine.{SurfaceNow, ActorNow, answered}
 use Rattle.run_report.specs.ActorLegal.{IsLegalSoFar, record_named, admitted_records, IsAdmittedBySome}

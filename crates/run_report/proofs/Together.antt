@@ -5,7 +5,7 @@ use Rattle.std.proofs.lemmas.List.Elements.{recursion_from_All}
 use Rattle.tree_revision.specs.Script.{PlainSurface, PlainScript}
 use Rattle.tree_revision.specs.Sound.{ids_of, HasOneMounter, IsSoundScript}
 use Rattle.run_report.specs.Journal.{PlainSurfacePart, PlainJournal}
-use Rattle.run_report.specs.Wishes.{Wish}
+use Rattle.tree_revision.specs.Wishes.{Wish}
 use Rattle.run_report.specs.Legal.{HasFormOf, IsLegalOn, IsHookLegal}
 use Rattle.run_report.specs.ActorLegal.{IsPutTogether}
 use Rattle.run_report.proofs.Lists.{all_unmap}

@@ -13,7 +13,7 @@ use Rattle.tree_revision.specs.declared.record.Answer.TheVariants.{Held, Admitte
 use Rattle.run_report.specs.Points.{number_held}
 use Rattle.run_report.specs.Legal.{IsAnswerTo}
 use Rattle.run_report.specs.Machine.{SurfaceNow, ActorNow, Moment, answered, looked_with, after_commit, after_hooked_event, moment}
-use Rattle.run_report.specs.Wishes.{Wish, KeepsRange}
+use Rattle.tree_revision.specs.Wishes.{Wish, KeepsRange}
 use Rattle.run_report.specs.Shorthands.{trying, recorded, mounted_at}
 use Rattle.run_report.specs.ActorLegal.{HasLookedAt}
 use Rattle.run_report.proofs.Kept.{IsHookedSurface, IsActorOf}

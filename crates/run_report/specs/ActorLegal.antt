@@ -17,7 +17,7 @@ use Rattle.run_report.specs.Points.{point_before, number_held}
 use Rattle.run_report.specs.Mounts.{passages_by, last_to, passages_on, mount_along}
 use Rattle.run_report.specs.Legal.{Answers, TakenStep, taken_after, HasItsRecord, cancel_for_act, HasCause, LooksForward, IsEmptyAt, HasRoomForTries, FollowOn, AreMountsOn}
 use Rattle.run_report.specs.Machine.{SurfaceNow, ActorNow, Moment}
-use Rattle.run_report.specs.Wishes.{Wish}
+use Rattle.tree_revision.specs.Wishes.{Wish}
 
 -- the steps that an actor has taken on the surface of that id
 abbrev pub taken_by : (number : ℕ) → List PlainStep → List StepPart → (id : ℕ) → List TakenStep

@@ -19,7 +19,7 @@ use Rattle.run_report.specs.Journal.{PlainMount, PlainSurfacePart, PlainActorPar
 use Rattle.run_report.specs.Points.{look_point, point_before, number_held, mounted_after}
 use Rattle.mount_coordinator.specs.Mounted.{host_tree_at}
 use Rattle.run_report.specs.Mounts.{Passage, passage_in, passages_on}
-use Rattle.run_report.specs.Wishes.{Wish, as_written}
+use Rattle.tree_revision.specs.Wishes.{Wish, as_written}
 
 -- a hold is answered held, a mount is answered mounted or empty, and a commit is answered admitted or cancelled
 abbrev pub IsAnswerTo : PlainAct → Answer → Type 0

@@ -1,7 +1,6 @@
 pub mod Journal
 pub mod Points
 pub mod Mounts
-pub mod Wishes
 pub mod Legal
 pub mod Machine
 pub mod ActorLegal

@@ -12,7 +12,7 @@ use Rattle.tree_revision.specs.declared.record.Answer.TheVariants.{Held, Admitte
 use Rattle.run_report.specs.declared.journal.StepPart.{StepPart}
 use Rattle.run_report.specs.Journal.{PlainSurfacePart, PlainActorPart, PlainJournal}
 use Rattle.run_report.specs.Points.{number_held}
-use Rattle.run_report.specs.Wishes.{Wish, as_written}
+use Rattle.tree_revision.specs.Wishes.{Wish, as_written}
 use Rattle.mount_coordinator.specs.Mounted.{host_tree_at}
 use Rattle.run_report.specs.Mounts.{passages_on, mount_along}
 

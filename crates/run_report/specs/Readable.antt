@@ -6,7 +6,7 @@ use Rattle.tree_revision.specs.Sound.{is_name, names_of}
 use Rattle.run_report.specs.Journal.{PlainJournal}
 use Rattle.run_report.specs.Named.{NamesItsActors}
 use Rattle.run_report.specs.Legal.{HasFormOf, CommitsStandOnce}
-use Rattle.run_report.specs.Wishes.{as_written}
+use Rattle.tree_revision.specs.Wishes.{as_written}
 use Rattle.run_report.specs.Ranges.{IsInRange}
 
 -- each actor of a script has a name of its own

@@ -9,7 +9,7 @@ use Rattle.run_report.specs.Journal.{PlainActorPart, PlainJournal}
 use Rattle.run_report.specs.Points.{mounted_after}
 use Rattle.run_report.specs.Mounts.{Passage, passage_of, passages_by}
 use Rattle.run_report.specs.Machine.{SurfaceNow, ActorNow, RunNow, after_hooked_event_on, after_hooked_event_by, after_hooked_event_of, after_hooked_turn}
-use Rattle.run_report.specs.Wishes.{Wish, as_written}
+use Rattle.tree_revision.specs.Wishes.{Wish, as_written}
 
 -- the steps after the first
 abbrev pub later : List PlainStep → List PlainStep

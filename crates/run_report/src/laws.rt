@@ -16,7 +16,7 @@ ghost use Rattle.run_report.specs.Machine.{SurfaceNow, ActorNow, after_hooked_ev
 ghost use Rattle.run_report.specs.Shorthands.{trying};
 ghost use Rattle.run_report.specs.Legal.{HasFormOf, IsHookLegal, IsLegal};
 ghost use Rattle.run_report.specs.ActorLegal.{GoesThrough, PassagesFollowOn, MountsFollow, IsLegalSoFar, MayTakeEvent, IsLegalAfter, IsPutTogether, AreLegalAnswers, admitted_records, NamesItsEvent, NamesTheSame};
-ghost use Rattle.run_report.specs.Wishes.{Wish, KeepsRange};
+ghost use Rattle.tree_revision.specs.Wishes.{Wish, KeepsRange};
 ghost use Rattle.run_report.specs.Ranges.{IsInRange};
 ghost use Rattle.run_report.specs.Readable.{HasNames, IsReadable};
 

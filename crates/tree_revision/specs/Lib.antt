@@ -2,6 +2,7 @@ pub mod Records
 pub mod CodedRecords
 pub mod Script
 pub mod InRange
+pub mod Wishes
 pub mod Sound
 pub mod Revisions
 pub mod Newest

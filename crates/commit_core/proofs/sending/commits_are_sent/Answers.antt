@@ -7,6 +7,6 @@ use Rattle.commit_core.proofs.sending.commits_are_sent.Goals as goal
 
 pub needs_send-requires-send-T : goal.needs_send-requires-send-T
 needs_send-requires-send-T c κs =
-    let parts : IsSend (as_row inside.the_field) = declared_send inside.the_type (c.phases_are_sent.ensures, (c.revisions_are_sent.ensures, (search sendable, tt))) in
+    let parts : IsSend (as_row inside.the_field) = declared_send inside.the_type (c.hooked_commits_are_sent.ensures, tt) in
     let commit : IsSend (as_row commit_type.the_field) = view_send _ _ _ _ _ parts in
     search sendable

@@ -1,4 +1,4 @@
-use Rattle.run_report.specs.Wishes.{as_written}
+use Rattle.tree_revision.specs.Wishes.{as_written}
 use Rattle.run_report.proofs.AtEnd.{turns_legal}
 use Rattle.run_report.proofs.laws.journals_of_turns_are_legal.Goals as goal
 
