@@ -184,12 +184,7 @@ impl HookedCommitter {
     }
 
     /// An offer of the revision after the change that was wished.
-    fn offer<P: Port, H: Hook>(
-        &mut self,
-        port: &mut P,
-        _hook: &H,
-        commit: ReadyCommit,
-    ) -> Progress
+    fn offer<P: Port, H: Hook>(&mut self, port: &mut P, _hook: &H, commit: ReadyCommit) -> Progress
         requires ended { self.old.phase ≡ over }
         requires shares { commit.now ≡ commit.next }
         requires ready { MayOffer (H.wish _hook.now) (P.told port.old) self.old.held self.old.tries (written_entry commit) (plain_op commit.entry.op.value) commit.next }

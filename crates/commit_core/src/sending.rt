@@ -2,6 +2,10 @@
 
 ghost use denote.Hole.{as_row};
 ghost use denote.Param.Send.{IsSend};
+ghost use Rattle.std.specs.contracts.sync.Arc as arc_type;
+ghost use Rattle.std.specs.contracts.alloc.Global as global_type;
+ghost use Rattle.std.specs.contracts.impls.GlobalAllocator.TheImpl as global_impl;
+ghost use Rattle.tree_revision.specs.contracts.record.Op as op_type;
 ghost use Rattle.tree_revision.specs.contracts.record.Record as record_type;
 ghost use Rattle.tree_revision.specs.contracts.revision.Revision as revision_type;
 ghost use Rattle.commit_core.specs.contracts.committer.Committer as commit_type;
@@ -32,13 +36,20 @@ fn revisions_are_sent()
     needs_send::<Revision>(None);
 }
 
+/// A shared change may go to another thread.
+fn shared_changes_are_sent()
+    ensures { IsSend (as_row (arc_type.the_field op_type.the_row global_type.the_row global_impl.ghosts)) }
+{
+    needs_send::<Arc<Op>>(None);
+}
+
 /// A commit that has looked may go to another thread.
 fn ready_commits_are_sent()
     ensures { IsSend (as_row ready_type.the_field) }
 {
     records_are_sent();
+    shared_changes_are_sent();
     revisions_are_sent();
-    needs_send::<Arc<Op>>(None);
     needs_send::<ReadyCommit>(None);
 }
 

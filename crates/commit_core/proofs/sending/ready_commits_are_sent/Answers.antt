@@ -4,7 +4,7 @@ use denote.Param.SendFields.{declared_send}
 use Rattle.commit_core.specs.contracts.committer.ReadyCommit as ready_type
 use Rattle.commit_core.proofs.sending.ready_commits_are_sent.Goals as goal
 
-pub needs_send-2-requires-send-T : goal.needs_send-2-requires-send-T
-needs_send-2-requires-send-T c κs =
-    let ready : IsSend (as_row ready_type.the_field) = declared_send ready_type.the_type (c.records_are_sent.ensures, (c.needs_send.ensures, (c.revisions_are_sent.ensures, (c.revisions_are_sent.ensures, tt)))) in
+pub needs_send-requires-send-T : goal.needs_send-requires-send-T
+needs_send-requires-send-T c κs =
+    let ready : IsSend (as_row ready_type.the_field) = declared_send ready_type.the_type (c.records_are_sent.ensures, (c.shared_changes_are_sent.ensures, (c.revisions_are_sent.ensures, (c.revisions_are_sent.ensures, tt)))) in
     search sendable
