@@ -10,6 +10,7 @@ use Rattle.tree_revision.specs.Records.{PlainRecord}
 use Rattle.tree_revision.specs.Script.{PlainAct, commit, hold, mount, PlainStep, PlainActor, PlainScript}
 use Rattle.tree_revision.specs.Sound.{IsSoundScript}
 use Rattle.tree_revision.specs.Ports.{Lasts}
+use Rattle.tree_revision.specs.Wishes.{as_written}
 use Rattle.mount_coordinator.specs.Mounted.{IsBaseOf}
 use Rattle.tree_revision.specs.Stands.{StandsFor}
 use Rattle.std.proofs.Math.Seq.{take-length}
@@ -289,7 +290,7 @@ module _ (script : PlainScript) (sound : IsSoundScript script) (entries : List (
             holding = holding_lasts (told_with s.pass desk) (told_with s.pass new) step.surface w.actor lasts s.order.holding;
             commit = λ op there commit e.
                 let way : IsUnderWay (told_with s.pass desk) (commit_record step.surface op w.actor) commit = s.order.commit op there commit e in
-                record { entry_is = way.entry_is; ready = ready_later (told_with s.pass desk) (told_with s.pass new) commit lasts same way.ready };
+                record { entry_is = way.entry_is; ready = ready_later as_written (told_with s.pass desk) (told_with s.pass new) commit lasts same way.ready };
           };
           mounted = s.mounted;
           mounts = s.mounts

@@ -7,6 +7,7 @@ use Rattle.tree_revision.specs.Records.{PlainRecord}
 use Rattle.tree_revision.specs.Settled.{KeptRevision}
 use Rattle.tree_revision.specs.declared.record.Cancel.{Cancel}
 use Rattle.tree_revision.specs.Ports.{Lasts}
+use Rattle.tree_revision.specs.Wishes.{as_written}
 use Rattle.commit_spine.specs.SpinePorts.{spine_told}
 use Rattle.commit_core.specs.Commit.{PlainCommit, entry_under_way}
 use Rattle.commit_core.specs.Events.{IsAdmittedOffer, IsBusyEvent, IsCancelledLook, IsClearLook, IsEnd, IsLateOffer, IsLookInVain, cause_after}
@@ -41,7 +42,7 @@ module _ (start before after : Handle) (entry : PlainRecord) (commit next : Plai
   }
 
   pub after_clear_look : (number : ℕ) → IsAtCall before after
-      → IsClearLook (spine_told before.surface.pass) (spine_told after.surface.pass) commit next number → IsCommitting start after entry next
+      → IsClearLook as_written (spine_told before.surface.pass) (spine_told after.surface.pass) commit next number → IsCommitting start after entry next
   after_clear_look number same look = record {
     goes_on = goes_on;
     in_vain = in_vain same look.look.answered.own look.look.answered.permits;
@@ -51,7 +52,7 @@ module _ (start before after : Handle) (entry : PlainRecord) (commit next : Plai
   }
 
   pub after_late_offer : (found : ℕ) → IsAtCall before after
-      → IsLateOffer (spine_told before.surface.pass) (spine_told after.surface.pass) commit next found → IsCommitting start after entry next
+      → IsLateOffer as_written (spine_told before.surface.pass) (spine_told after.surface.pass) commit next found → IsCommitting start after entry next
   after_late_offer found same offer = record {
     goes_on = goes_on;
     in_vain = in_vain same offer.stays.own offer.stays.permits;
@@ -61,7 +62,7 @@ module _ (start before after : Handle) (entry : PlainRecord) (commit next : Plai
   }
 
   pub after_busy_event : IsAtCall before after
-      → IsBusyEvent (spine_told before.surface.pass) (spine_told after.surface.pass) commit next → IsCommitting start after entry next
+      → IsBusyEvent as_written (spine_told before.surface.pass) (spine_told after.surface.pass) commit next → IsCommitting start after entry next
   after_busy_event same event = record {
     goes_on = goes_on;
     in_vain = in_vain same event.stays.own event.stays.permits;
@@ -71,7 +72,7 @@ module _ (start before after : Handle) (entry : PlainRecord) (commit next : Plai
   }
 
   pub after_vain_look : IsAtCall before after
-      → IsLookInVain (spine_told before.surface.pass) (spine_told after.surface.pass) commit next
+      → IsLookInVain as_written (spine_told before.surface.pass) (spine_told after.surface.pass) commit next
       → PassGoesOn start.surface.pass after.surface.pass × IsCommitInVain start after
   after_vain_look same look = (
     goes_on,
@@ -82,14 +83,14 @@ module _ (start before after : Handle) (entry : PlainRecord) (commit next : Plai
   )
 
   pub after_cancel : (number count : ℕ) (cause : Cancel) → after.held ≡ before.held → IsAtNextCall before after
-      → IsCancelledLook (spine_told before.surface.pass) (spine_told after.surface.pass) commit next number count cause
+      → IsCancelledLook as_written (spine_told before.surface.pass) (spine_told after.surface.pass) commit next number count cause
       → PassGoesOn start.surface.pass after.surface.pass × IsCancelled start after entry number count cause
   after_cancel number count cause held next_call look = (
     goes_on,
     record {
       at_is = look.at;
       cause_is = ap (λ (first : Size). cancel_of first entry.op after.surface.pass.kept.seen entry.held) lasts.first
-          ∙ (sym (ap (cause_after before.surface.pass.kept.mark.first after.surface.pass.kept.seen) so_far.entry_is) ∙ look.cause);
+          ∙ (sym (ap (cause_after as_written before.surface.pass.kept.mark.first after.surface.pass.kept.seen) so_far.entry_is) ∙ look.cause);
       adds_none = record {
         own = look.look.answered.own ∙ so_far.in_vain.adds_none.own;
         permits = look.look.answered.permits ∙ so_far.in_vain.adds_none.permits;
@@ -104,7 +105,7 @@ module _ (start before after : Handle) (entry : PlainRecord) (commit next : Plai
   )
 
   pub after_admission : (number count : ℕ) (share : Option KeptRevision) → share ≡ Some after.held → IsAtNextCall before after
-      → IsAdmittedOffer (spine_told before.surface.pass) (spine_told after.surface.pass) commit next number count share
+      → IsAdmittedOffer as_written (spine_told before.surface.pass) (spine_told after.surface.pass) commit next number count share
       → PassGoesOn start.surface.pass after.surface.pass × IsAdmitted start after entry number count
   after_admission number count share held next_call event =
       let is : event.entry ≡ entry = same_Some event.entry entry (sym event.is_entry ∙ so_far.entry_is) in (
@@ -128,7 +129,7 @@ module _ (start before after : Handle) (entry : PlainRecord) (commit next : Plai
   -- the end of a commit that was answered so, after which the handle holds that revision where one is given
   pub after_end : (answer : Answer) (now : Option KeptRevision) (committed : Committed) → committed_of answer ≡ Some committed
       → after.held ≡ unwrap_or now before.held → IsAtNextCall before after
-      → IsEnd (spine_told before.surface.pass) (spine_told after.surface.pass) commit next answer now
+      → IsEnd as_written (spine_told before.surface.pass) (spine_told after.surface.pass) commit next answer now
       → PassGoesOn start.surface.pass after.surface.pass × HasCommitted start after entry committed
   after_end (AnsweredAdmitted number tries) now committed is held next_call end =
       subst (λ (c : Committed). PassGoesOn start.surface.pass after.surface.pass × HasCommitted start after entry c) (same_Some (Admitted number tries) committed is)

@@ -5,6 +5,7 @@ use Rattle.counts.specs.Raised.{raised}
 use Rattle.tree_revision.specs.Records.{PlainOp, PlainRecord}
 use Rattle.tree_revision.specs.Cancels.{cancel_of}
 use Rattle.tree_revision.specs.Ports.{BeginsWith, IsLookRefusal}
+use Rattle.tree_revision.specs.Wishes.{as_written}
 use Rattle.tree_revision.specs.Stands.{StandsFor}
 use Rattle.tree_revision.specs.declared.port.LookRefusal.{LookRefusal}
 use Rattle.tree_revision.specs.declared.record.Cancel.{Cancel}
@@ -108,7 +109,7 @@ pub record IsCommitting (start now : Handle) (entry : PlainRecord) (commit : Pla
   pub in_vain : IsCommitInVain start now
   pub looks : now.surface.pass.kept.looks ≡ raised start.surface.pass.kept.looks commit.tries
   pub entry_is : entry_under_way commit ≡ Some entry
-  pub ready : IsReadyFor (spine_told now.surface.pass) commit
+  pub ready : IsReadyFor as_written (spine_told now.surface.pass) commit
 
 -- what one event of a commit answers: it has ended, or it goes on
 abbrev pub IsCommittedOrOn : (start now : Handle) → PlainRecord → PlainCommit → Result (Option Committed) AllocError → Type 0

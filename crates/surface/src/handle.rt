@@ -5,6 +5,7 @@ ghost use Rattle.shadow_node.specs.InRange.{IsTagInRange};
 ghost use Rattle.tree_revision.specs.InRange.{IsOpInRange};
 ghost use Rattle.tree_revision.specs.Records.{PlainRecord, plain_op, state as state_of};
 ghost use Rattle.tree_revision.specs.Stands.{StandsFor};
+ghost use Rattle.tree_revision.specs.Wishes.{as_written};
 ghost use Rattle.commit_core.specs.Commit.{entry_under_way};
 ghost use Rattle.commit_core.specs.Events.{IsReadyFor};
 ghost use Rattle.commit_spine.specs.SpinePorts.{spine_told};
@@ -160,7 +161,7 @@ impl Handle {
         made: &mut Made,
         commit: &mut Committer,
     ) -> Result<Option<Committed>, AllocError>
-        requires ready { IsReadyFor (spine_told self.old.surface.pass) commit.old }
+        requires ready { IsReadyFor as_written (spine_told self.old.surface.pass) commit.old }
         requires permit { 1 ≤ self.old.surface.pass.kept.permits }
         ensures { (start : HandleValue) (entry : PlainRecord) → IsCommitting start self.old entry commit.old
             → IsCommittedOrOn start self.new entry commit.new result }

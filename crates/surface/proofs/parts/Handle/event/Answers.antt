@@ -1,5 +1,6 @@
 use Rattle.std.proofs.Common.{refl, sym, subst}
 use Rattle.tree_revision.specs.Ports.{Lasts}
+use Rattle.tree_revision.specs.Wishes.{as_written}
 use Rattle.commit_spine.specs.SpinePasses.{PassValue}
 use Rattle.commit_spine.specs.SpinePorts.{spine_told}
 use Rattle.commit_core.specs.Events.{IsEnd}
@@ -29,4 +30,4 @@ returns-in-Done c = λ start entry so_far.
     (subst (λ (p : PassValue). Lasts (spine_told c.args.self.now.surface.pass) (spine_told p)) same c.in-Done.ensures.lasts)
     so_far c.in-Done.answer c.in-Done.now c.ended_by.result c.ended_by.ensures c.end_call.ensures.held
     record { actor = c.end_call.ensures.call.actor; call = c.end_call.ensures.call.call }
-    (subst (λ (p : PassValue). IsEnd (spine_told c.args.self.now.surface.pass) (spine_told p) c.args.commit.now c.turn.new.self c.in-Done.answer c.in-Done.now) same c.in-Done.ensures.event)
+    (subst (λ (p : PassValue). IsEnd as_written (spine_told c.args.self.now.surface.pass) (spine_told p) c.args.commit.now c.turn.new.self c.in-Done.answer c.in-Done.now) same c.in-Done.ensures.event)
