@@ -193,9 +193,17 @@ fn scroll_and_show<R: Threads + Wait + Sync>(
     shown
 }
 
+/// What stands at the end.
+#[derive(Drop)]
+pub struct Shown {
+    pub platform: TextPlatform,
+    /// The number of the revision that stands mounted, which is how many commits were admitted.
+    pub commits: u64,
+}
+
 /// Runs the app to its end: all rows came, the list was scrolled, and all that stands mounted is on
 /// the platform.
-pub fn run_app<R: Threads + Wait + Sync>(rt: &R, alloc: Global) -> Result<TextPlatform, AppFault> {
+pub fn run_app<R: Threads + Wait + Sync>(rt: &R, alloc: Global) -> Result<Shown, AppFault> {
     let mut app = App::open(alloc)?;
     let Some(empty) = list_with(alloc, 0) else {
         return Err(AppFault::Tree);
@@ -203,6 +211,13 @@ pub fn run_app<R: Threads + Wait + Sync>(rt: &R, alloc: Global) -> Result<TextPl
     commit(rt, alloc, &mut app.adder, empty)?;
     app.work(rt, alloc)?;
     mount(rt, alloc, &mut app.mounter, &mut app.platform)?;
-    let App { platform, .. } = app;
-    Ok(platform)
+    let App {
+        mounter,
+        platform,
+        ..
+    } = app;
+    Ok(Shown {
+        platform,
+        commits: mounter.base(),
+    })
 }

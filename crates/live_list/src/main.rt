@@ -11,7 +11,10 @@ use std::io;
 
 fn main(rt: HostRuntime) -> io::Result<()> {
     match run_app(&rt, rt.alloc()) {
-        Ok(platform) => platform.draw(&rt),
+        Ok(shown) => {
+            shown.platform.draw(&rt)?;
+            println!(rt; "{} commits, {} views", shown.commits, shown.platform.len())
+        }
         Err(AppFault::Memory) => println!(rt; "no memory"),
         Err(AppFault::Cancelled) => println!(rt; "a commit was cancelled"),
         Err(AppFault::Full) => println!(rt; "the surface has no room"),

@@ -50,6 +50,11 @@ impl TextPlatform {
         }
     }
 
+    /// How many views there are beside the root.
+    pub fn len(&self) -> usize {
+        self.views.len().saturating_sub(1)
+    }
+
     /// Draws all views: each on a line of its own, and those that lie in it below, further right.
     pub fn draw(&self, rt: &HostRuntime) -> io::Result<()> {
         let mut ahead = vec![in self.alloc; (ROOT, 0u32)]?;
