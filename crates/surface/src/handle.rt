@@ -209,6 +209,13 @@ impl Handle {
         &self.held
     }
 
+    /// How many commits of it may still be admitted.
+    pub fn permits(&self) -> u64
+        ensures { result ≡ self.now.surface.pass.kept.permits }
+    {
+        self.surface.permits()
+    }
+
     /// Its way to the surface, which may be joined with another.
     pub fn into_surface(self) -> Surface
         ensures { result.pass ≡ self.surface.pass }
