@@ -20,7 +20,7 @@ use Rattle.surface.specs.declared.handle.Committed.{Committed}
 use Rattle.surface.specs.declared.handle.Committed.TheVariants.{Admitted, Cancelled}
 use Rattle.surface.specs.declared.parts.Handle.{Handle}
 use Rattle.surface.specs.Passing.{PassGoesOn}
-use Rattle.surface.specs.Committing.{HasCommitted, IsAdmitted, IsAtCall, IsAtNextCall, IsCancelled, IsCommitInVain, IsCommitting, IsEnded, IsStillUnderWay, IsToLookAgain, IsToOffer, IsWithoutMemory, committed_of, tries_next, tries_with}
+use Rattle.surface.specs.Committing.{IsAdmitted, IsAtCall, IsAtNextCall, IsCancelled, IsCommitInVain, IsCommitting, IsEnded, IsStillUnderWay, IsToLookAgain, IsToOffer, IsWithoutMemory, committed_of, tries_next, tries_with}
 use Rattle.surface.proofs.Passes.{goes_on_at, goes_on_through}
 
 module _ (start before after : Handle) (entry : PlainRecord) (commit next : PlainCommit)

@@ -1,16 +1,14 @@
 -- A transaction leads the registry of the views that stand mounted on.
-use Rattle.std.proofs.Common.{◌≡◌, ℕ, ◌≤◌, List, ◌++◌, length, map, take, drop, arith, ap, sym, ◌∙◌, subst, take-append-drop, length-take-le, length-take}
+use Rattle.std.proofs.Common.{◌≡◌, ℕ, ◌≤◌, List, ◌++◌, map, take, drop, arith, ap, sym, ◌∙◌, subst, take-append-drop}
 use Rattle.std.proofs.lemmas.List.{take-take}
 use Rattle.shadow_frame.specs.declared.Size.{Size}
 use Rattle.host_views.specs.Plain.{plain_mutation, PlainMutation}
 use Rattle.host_views.specs.Registry.{MayApply, mutated, registry_of}
 use Rattle.view_flatten.specs.HostTree.{host_tree_of}
-use Rattle.view_mutation.specs.Mutations.{mutations_between}
 use Rattle.view_mutation.specs.Leads.{LeadOn}
 use Rattle.tree_revision.specs.Records.{PlainRecord}
 use Rattle.tree_revision.specs.Stands.{settled_of}
 use Rattle.tree_revision.specs.Lawful.{IsLawful}
-use Rattle.tree_revision.proofs.Histories.{IsLawful-front}
 use Rattle.mount_coordinator.specs.declared.coordinator.Transaction.{Transaction}
 use Rattle.mount_coordinator.specs.Mounted.{PlainCoordinator, IsBaseIn, host_tree_at}
 use Rattle.mount_coordinator.specs.Answers.{IsPullAnswer, IsTransaction}

@@ -1,6 +1,6 @@
 -- A commit after a number of events, looks and offers by turns.
 use Rattle.std.proofs.Common.{◌≡◌, ℕ, ◌+◌, arith, ap, sym, ◌∙◌}
-use Rattle.std.specs.Prelude.{Option, Some, None}
+use Rattle.std.specs.Prelude.{Some, None}
 use Rattle.tree_revision.specs.Records.{PlainRecord}
 use Rattle.commit_core.specs.Commit.{PlainCommit, looked_at}
 use Rattle.surface.specs.declared.parts.Handle.{Handle}

@@ -1,4 +1,3 @@
-use Rattle.std.proofs.Common.{◌≡◌}
 use Rattle.surface.specs.Passing.{PassGoesOn}
 use Rattle.surface.specs.Committing.{IsCommitInVain}
 use Rattle.surface.proofs.parts.Handle.hold.Given as goal
