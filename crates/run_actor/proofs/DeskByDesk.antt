@@ -6,6 +6,7 @@ use Rattle.std.proofs.lemmas.Bool.{cases_eq, ne_eqb}
 use Rattle.std.proofs.lemmas.Option.{same_Some}
 use Rattle.std.proofs.lemmas.Map.Made.{IsSome-lookup_same_keys}
 use Rattle.tree_revision.specs.Script.{PlainAct, mount, PlainStep}
+use Rattle.tree_revision.specs.Wishes.{as_written}
 use Rattle.tree_revision.specs.Ports.{Told}
 use Rattle.mount_coordinator.specs.Mounted.{PlainCoordinator}
 use Rattle.run_actor.specs.Actors.{RunningActor}
@@ -66,7 +67,7 @@ module _ {D : Type 0} (told : D → Told) (mounted : D → Option PlainCoordinat
           may.mount (left_contains begun actor (record { surface = id; act = mount }) far (left ∙ ap (λ act. Some (record { surface = id; act = act })) is))
 
       -- the next event may take place
-      pub may_next : (desk : D) × (lookup (nat_eq id) now ≡ Some desk) × MayAct (told desk) (mounted desk) actor
+      pub may_next : (desk : D) × (lookup (nat_eq id) now ≡ Some desk) × MayAct as_written (told desk) (mounted desk) actor
       may_next =
           let was = desk_at in
           let is = still_there id opened now was.0 keys was.1 in

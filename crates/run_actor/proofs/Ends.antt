@@ -115,7 +115,7 @@ needs_of id mount start told opened mounted begun now on at unmounted =
 
 -- an actor may do its next event
 pub may_act : (start told : Told) (opened mounted : Option PlainCoordinator) (begun now : RunningActor) (step : PlainStep) → HasRunOnSoFar step.surface start told opened mounted begun now
-    → slice_get now.left 0 ≡ Some step → (step.act ≡ mount → HasNothingMounted start opened) → MayAct told mounted now
+    → slice_get now.left 0 ≡ Some step → (step.act ≡ mount → HasNothingMounted start opened) → MayAct as_written told mounted now
 may_act start told opened mounted begun now step on at unmounted = record {
   step = step;
   left = at;

@@ -77,7 +77,7 @@ follows_same first id entries number before after mounts mounts' passages same f
 -- how far an actor has run, where its port and the actor name the same as before
 module _ (id : ℕ) (start old new : Told) (opened was is : Option PlainCoordinator) (begun before after : RunningActor) where
   pub keeps : HasRunOnSoFar id start old opened was begun before → Lasts old new → Stays old new → is ≡ was
-      → IsLegalSoFar as_written new.first id new.seen new.floor begun.number begun.left (actor_now after) → IsInOrder new id after
+      → IsLegalSoFar as_written new.first id new.seen new.floor begun.number begun.left (actor_now after) → IsInOrder as_written new id after
       → NamesTheSame as_written id new.seen begun.number begun.left (actor_now before) (actor_now after)
       → mounts_made_on id after.mounts ≡ mounts_made_on id before.mounts → count_by (commits_on id) after.left ≤ count_by (commits_on id) before.left
       → HasRunOnSoFar id start new opened is begun after

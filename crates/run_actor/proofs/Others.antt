@@ -34,7 +34,7 @@ record WentOn (id : ℕ) (act : PlainAct) (before after : RunningActor) : Type 0
 
 -- each event that took place is one of the machine
 went_on : (id : ℕ) (act : PlainAct) (old new : Told) (was is : Option PlainCoordinator) (before after : RunningActor)
-    → HasDone id act old new was is before after → WentOn id act before after
+    → HasDone as_written id act old new was is before after → WentOn id act before after
 went_on id (commit op) old new was is before after done =
     let now : ActorNow = actor_now before in
     let entry : PlainRecord = commit_record id op before in
@@ -67,7 +67,7 @@ adds_elsewhere id other before after (PulledEmpty at) off adds = ap (mounts_made
 adds_elsewhere id other before after PulledBusy off adds = absurd adds
 
 done_elsewhere : (id other : ℕ) (act : PlainAct) (old new : Told) (was is : Option PlainCoordinator) (before after : RunningActor) → nat_eq id other ≡ false
-    → HasDone id act old new was is before after → mounts_made_on other after.mounts ≡ mounts_made_on other before.mounts
+    → HasDone as_written id act old new was is before after → mounts_made_on other after.mounts ≡ mounts_made_on other before.mounts
 done_elsewhere id other (commit op) old new was is before after off done = ap (mounts_made_on other) done.1.mounts
 done_elsewhere id other hold old new was is before after off done = ap (mounts_made_on other) done.1.mounts
 done_elsewhere id other mount old new was is before after off done = adds_elsewhere id other before after done.pulled off done.mounts
@@ -79,7 +79,7 @@ surface_in None = 0
 -- an actor that holds the same on a surface is in order there, after an event on another
 order_elsewhere : (id other : ℕ) (act : PlainAct) (told : Told) (before after : RunningActor) → nat_eq id other ≡ false
     → slice_get before.left 0 ≡ Some (record { surface = id; act = act }) → KeepsElsewhere id before after
-    → number_held other after.answers ≡ number_held other before.answers → IsInOrder told other before → IsInOrder told other after
+    → number_held other after.answers ≡ number_held other before.answers → IsInOrder as_written told other before → IsInOrder as_written told other after
 unfolding surface_in
 order_elsewhere id other act told before after off left elsewhere held order = record {
   reached = order.reached;
@@ -105,7 +105,7 @@ module _ (id other : ℕ) (start told old new : Told) (opened mounted was is : O
       keeps other start told told opened mounted mounted begun before after on (lasts_same told on.order.reached) (stays_same told) refl legal
       (order_elsewhere id other acted.act told before after off acted.left acted.elsewhere names.held on.order) names mounts left
 
-  did_elsewhere : HasDone id acted.act old new was is before after → HasRunOnSoFar other start told opened mounted begun after
+  did_elsewhere : HasDone as_written id acted.act old new was is before after → HasRunOnSoFar other start told opened mounted begun after
   did_elsewhere done =
       let now : ActorNow = actor_now before in
       let step : PlainStep = record { surface = id; act = acted.act } in
@@ -118,7 +118,7 @@ module _ (id other : ℕ) (start told old new : Told) (opened mounted was is : O
       (subst (NamesTheSame as_written other told.seen begun.number begun.left now) (sym went)
       (event_same as_written other told.seen begun.number begun.left step on_it.surface now far.through acted.left (sym on_it.is) off acted.act))
       (done_elsewhere id other acted.act old new was is before after off done)
-      (omega (arith, ap (λ (a : ActorNow). count_by (commits_on other) a.left) went, (event_elsewhere begun.number on_it.surface now acted.act).left other))
+      (omega (arith, ap (λ (a : ActorNow). count_by (commits_on other) a.left) went, (event_elsewhere begun.number on_it.surface now as_written acted.act).left other))
 
   pub other_event : HasRunOnSoFar other start told opened mounted begun after
   other_event =

@@ -91,7 +91,7 @@ event_name number mount surface actor =
     (moment (mounted_at (mountable_of surface.records) surface) (answered surface.id (Mounted surface.base (mountable_of surface.records)) actor)) actor refl refl
 
 module _ (id : ℕ) (start old new : Told) (opened was is : Option PlainCoordinator) (begun before after : RunningActor)
-    (far : HasRunSoFar begun before) (on : HasRunOnSoFar id start old opened was begun before) (lasts : Lasts old new) (order : IsInOrder new id after)
+    (far : HasRunSoFar begun before) (on : HasRunOnSoFar id start old opened was begun before) (lasts : Lasts old new) (order : IsInOrder as_written new id after)
     (elsewhere : KeepsElsewhere id before after) where
   -- an event of the machine, at the records that the port told when it took place: what is known of it
   pub record IsTaken (act : PlainAct) (told : Told) (base next : ℕ) : Type 0 where
@@ -101,7 +101,7 @@ module _ (id : ℕ) (start old new : Told) (opened was is : Option PlainCoordina
     pub reached : length told.seen ≤ new.floor
     pub fresh : (actor_now before).looked ≡ None → old.floor ≤ length told.seen
     pub at_base : act ≡ mount → base ≡ last_to (passages_by id begun.number before.answers)
-    pub goes : GoesOn id act told base before after
+    pub goes : GoesOn as_written id act told base before after
     pub surface_is : (after_event before.number act (surface_told id told base) (actor_now before)).surface ≡ surface_told id new next
     pub lawful : IsLawful new.first new.seen
     pub own : new.own ≡ old.own ++ enumerate_from (length told.seen + 1) (drop (length told.seen) new.seen)
@@ -197,7 +197,7 @@ module _ (id : ℕ) (start old new : Told) (opened was is : Option PlainCoordina
       (subst (λ first. MountsFollow first id old.seen begun.number before.answers (mounts_made_on id before.mounts)) (sym lasts.first) on.mounts)
 
   -- a look, and what it left of mounts
-  looked : (act : PlainAct) (base next : ℕ) → slice_get before.left 0 ≡ Some (record { surface = id; act = act }) → HasLooked old new → GoesOn id act new base before after
+  looked : (act : PlainAct) (base next : ℕ) → slice_get before.left 0 ≡ Some (record { surface = id; act = act }) → HasLooked old new → GoesOn as_written id act new base before after
       → (act ≡ mount → base ≡ last_to (passages_by id begun.number before.answers))
       → (after_event before.number act (surface_told id new base) (actor_now before)).surface ≡ surface_told id new next
       → looks_at act (actor_now before).looked ≡ 1
@@ -221,14 +221,14 @@ module _ (id : ℕ) (start old new : Told) (opened was is : Option PlainCoordina
         permits = omega (arith, look.answered.permits, none);
         looks = look.answered.looks ∙ ap (raised old.looks) (sym once);
         room =
-            omega (arith, none, ap (λ (a : ActorNow). count_by (commits_on id) a.left) goes, (event_elsewhere before.number (surface_told id new base) (actor_now before) act).left id);
+            omega (arith, none, ap (λ (a : ActorNow). count_by (commits_on id) a.left) goes, (event_elsewhere before.number (surface_told id new base) (actor_now before) as_written act).left id);
         passages = (follow_on lawful).passages;
         along = along;
         mounted = mounted;
       })
 
   -- a look that mounts nothing
-  looked_quietly : (act : PlainAct) (base : ℕ) → slice_get before.left 0 ≡ Some (record { surface = id; act = act }) → HasLooked old new → GoesOn id act new base before after
+  looked_quietly : (act : PlainAct) (base : ℕ) → slice_get before.left 0 ≡ Some (record { surface = id; act = act }) → HasLooked old new → GoesOn as_written id act new base before after
       → (act ≡ mount → base ≡ last_to (passages_by id begun.number before.answers))
       → (after_event before.number act (surface_told id new base) (actor_now before)).surface ≡ surface_told id new base
       → looks_at act (actor_now before).looked ≡ 1 → MountsNothing was is before after → MountsNone id (actor_now before) (actor_now after)
@@ -237,14 +237,14 @@ module _ (id : ℕ) (start old new : Told) (opened was is : Option PlainCoordina
       looked act base base left look goes at_base surface_is once
       (quiet_along nothing quiet (subst (λ first. IsLawful first new.seen) (sym lasts.first) look.answered.stands.lawful)) (quiet_mounted nothing quiet)
 
-  held : slice_get before.left 0 ≡ Some (record { surface = id; act = hold }) → IsHoldEvent id old new (base_of was) before after → MountsNothing was is before after
+  held : slice_get before.left 0 ≡ Some (record { surface = id; act = hold }) → IsHoldEvent as_written id old new (base_of was) before after → MountsNothing was is before after
       → RunsOn id start new opened is begun after
   held left event nothing =
       let now : ActorNow = actor_now before in
       looked_quietly hold (base_of was) left event.look event.goes_on (λ e. absurd (true≢false (sym (ap is_mount e)))) refl (hold_looks now.looked) nothing
       (subst (MountsNone id now) (sym event.goes_on) (hold_quiet before.number (surface_told id new (base_of was)) now))
 
-  looked_at_it : (op : PlainOp) → slice_get before.left 0 ≡ Some (record { surface = id; act = commit op }) → IsLookEvent id op old new (base_of was) before after
+  looked_at_it : (op : PlainOp) → slice_get before.left 0 ≡ Some (record { surface = id; act = commit op }) → IsLookEvent as_written id op old new (base_of was) before after
       → MountsNothing was is before after → RunsOn id start new opened is begun after
   looked_at_it op left event nothing =
       let now : ActorNow = actor_now before in
@@ -253,7 +253,7 @@ module _ (id : ℕ) (start old new : Told) (opened was is : Option PlainCoordina
       (ap (λ looked. (after_commit before.number op looked surface now).surface) event.fresh) (ap (looks_at (commit op)) event.fresh) nothing
       (subst (MountsNone id now) (sym event.goes_on) (commit_quiet before.number surface now op now.looked))
 
-  admitted : (op : PlainOp) → slice_get before.left 0 ≡ Some (record { surface = id; act = commit op }) → IsAdmittedEvent id op old new (base_of was) before after
+  admitted : (op : PlainOp) → slice_get before.left 0 ≡ Some (record { surface = id; act = commit op }) → IsAdmittedEvent as_written id op old new (base_of was) before after
       → MountsNothing was is before after → RunsOn id start new opened is begun after
   admitted op left event nothing =
       let now : ActorNow = actor_now before in
@@ -338,7 +338,7 @@ module _ (id : ℕ) (start old new : Told) (opened was is : Option PlainCoordina
 
   -- a mount
   module _ (left : slice_get before.left 0 ≡ Some (record { surface = id; act = mount })) (unmounted : HasNothingMounted start opened) (from to : PlainCoordinator)
-      (was_from : was ≡ Some from) (is_to : is ≡ Some to) (look : HasLooked old new) (goes : GoesOn id mount new from.base.number before after) where
+      (was_from : was ≡ Some from) (is_to : is ≡ Some to) (look : HasLooked old new) (goes : GoesOn as_written id mount new from.base.number before after) where
     from_base : from.base.number ≡ last_to (passages_by id begun.number before.answers)
     from_base =
         let standing = left_standing start old opened was (passages_by id begun.number before.answers) on.lasts unmounted on.mounted in
@@ -389,7 +389,7 @@ module _ (id : ℕ) (start old new : Told) (opened was is : Option PlainCoordina
         (subst (MountsNone id now) (sym went) (answered_quiet id (Empty base) now (λ name. refl) (λ base. refl)))
 
   mounted_as : slice_get before.left 0 ≡ Some (record { surface = id; act = mount }) → HasNothingMounted start opened
-      → (event : IsMountEvent id old new was is before after) (pulled : Pulled) → event.pulled ≡ pulled → RunsOn id start new opened is begun after
+      → (event : IsMountEvent as_written id old new was is before after) (pulled : Pulled) → event.pulled ≡ pulled → RunsOn id start new opened is begun after
   mounted_as left unmounted event (PulledTransaction transaction) e =
       let answer = subst (λ pulled. IsPullAnswer old new event.from event.to (Ok pulled)) e event.answer in
       mounted_on left unmounted event.from event.to event.was_from event.is_to answer.0 event.goes_on transaction answer.1 event.stands
@@ -401,7 +401,7 @@ module _ (id : ℕ) (start old new : Told) (opened was is : Option PlainCoordina
   mounted_as left unmounted event PulledBusy e = absurd (subst (λ pulled. AddsMount id pulled before after) e event.mounts)
 
   did : (act : PlainAct) → slice_get before.left 0 ≡ Some (record { surface = id; act = act }) → (act ≡ mount → HasNothingMounted start opened)
-      → HasDone id act old new was is before after → RunsOn id start new opened is begun after
+      → HasDone as_written id act old new was is before after → RunsOn id start new opened is begun after
   did (commit op) left unmounted done =
       elim done.0 [
         | inl look ↦ looked_at_it op left look done.1

@@ -14,7 +14,8 @@ use Rattle.run_report.specs.declared.journal.StepName.{StepName}
 use Rattle.run_report.specs.declared.journal.StepPart.{StepPart}
 use Rattle.run_report.specs.Points.{number_held, mounted_after}
 use Rattle.run_report.specs.Mounts.{passage_of, passages_by}
-use Rattle.run_report.specs.Machine.{SurfaceNow, ActorNow, moment, answered, looked_with, after_commit, after_event}
+use Rattle.tree_revision.specs.Wishes.{Wish}
+use Rattle.run_report.specs.Machine.{SurfaceNow, ActorNow, moment, answered, looked_with, after_commit, after_hooked_event}
 use Rattle.run_report.specs.Shorthands.{trying, recorded, mounted_at, number_mounted}
 use Rattle.run_report.proofs.Looks.{number_held-other, number_mounted-push, number_mounted-other}
 use Rattle.script_read.proofs.PutRows.{count_by-first}
@@ -132,7 +133,7 @@ module _ (number : ℕ) (now : SurfaceNow) (actor : ActorNow) where
   mount_elsewhere false = answered_elsewhere now.id (Mounted now.base (mountable_of now.records)) actor
 
   -- each event leaves what is elsewhere
-  pub event_elsewhere : (act : PlainAct) → StaysElsewhere now.id actor (after_event number act now actor).actor
-  event_elsewhere (commit op) = commit_elsewhere op actor.looked
-  event_elsewhere hold = answered_elsewhere now.id (Held (length now.records)) actor
-  event_elsewhere mount = mount_elsewhere (nat_eq (mountable_of now.records) now.base)
+  pub event_elsewhere : (wish : Wish) (act : PlainAct) → StaysElsewhere now.id actor (after_hooked_event wish number act now actor).actor
+  event_elsewhere wish (commit op) = commit_elsewhere (wish now.records (number_held now.id actor.answers) op) actor.looked
+  event_elsewhere wish hold = answered_elsewhere now.id (Held (length now.records)) actor
+  event_elsewhere wish mount = mount_elsewhere (nat_eq (mountable_of now.records) now.base)

@@ -16,8 +16,8 @@ pub record HasActed (id : ℕ) (old new : Told) (was is : Option PlainCoordinato
   pub act : PlainAct
   pub left : slice_get before.left 0 ≡ Some (record { surface = id; act = act })
   pub lasts : Lasts old new
-  pub event : HasDone id act old new was is before after ⊎ IsBusy old new was is before after
-  pub order : IsInOrder new id after
+  pub event : HasDone as_written id act old new was is before after ⊎ IsBusy old new was is before after
+  pub order : IsInOrder as_written new id after
   pub elsewhere : KeepsElsewhere id before after
 
 -- an actor that had begun so goes through its steps
@@ -29,7 +29,7 @@ pub record HasRunSoFar (begun now : RunningActor) : Type 0 where
 -- an actor that had begun so has come that far on the surface of that id: it is in order and legal there over all that is seen, with a permit for each commit that it has left; looks, own records and permits are those that its answers and its commit under way name, its mounts follow, and what stands mounted is what they left
 pub record HasRunOnSoFar (id : ℕ) (old new : Told) (was is : Option PlainCoordinator) (begun now : RunningActor) : Type 0 where
   pub lasts : Lasts old new
-  pub order : IsInOrder new id now
+  pub order : IsInOrder as_written new id now
   pub legal : IsLegalSoFar as_written new.first id new.seen new.floor begun.number begun.left (actor_now now)
   pub room : count_by (commits_on id) now.left ≤ new.permits
   pub looks : new.looks ≡ raised old.looks (looks_so_far id (actor_now now))

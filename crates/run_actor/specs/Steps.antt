@@ -3,6 +3,7 @@ use Rattle.std.specs.Prelude.{◌≡◌, ℕ, ◌≤◌, false, length, nat_eq, 
 use Rattle.tree_revision.specs.Records.{PlainOp}
 use Rattle.tree_revision.specs.Script.{PlainAct, commit, mount}
 use Rattle.tree_revision.specs.Ports.{Told}
+use Rattle.tree_revision.specs.Wishes.{Wish}
 use Rattle.commit_core.specs.Commit.{PlainCommit}
 use Rattle.mount_coordinator.specs.Mounted.{PlainCoordinator}
 use Rattle.run_actor.specs.declared.actors.Event.{Event}
@@ -11,27 +12,6 @@ use Rattle.run_actor.specs.Actions.{answered_as, with_held}
 use Rattle.tree_revision.specs.Settled.{KeptRevision}
 use Rattle.tree_revision.specs.declared.record.Answer.{Answer}
 use Rattle.run_actor.specs.Event.{IsEventOf, IsHolding, IsInOrder, IsUnderWay, KeepsElsewhere}
-
--- a commit of an actor's step on the surface of that id may go on
-pub record MayGoOn (told : Told) (id : ℕ) (under : PlainCommit) (actor : RunningActor) : Type 0 where
-  pub op : PlainOp
-  pub left : slice_get actor.left 0 ≡ Some (record { surface = id; act = commit op })
-  pub reached : length told.seen ≤ told.floor
-  pub holding : IsHolding told id actor
-  pub under_way : IsUnderWay told (commit_record id op actor) under
-  pub permit : 1 ≤ told.permits
-
--- an event of an act that mounts nothing, on the surface of that id: what it says, and what it leaves in order
-pub record HasGoneOn (id : ℕ) (act : PlainAct) (old new : Told) (before after : RunningActor) (came : Event) : Type 0 where
-  pub event : (mounted : Option PlainCoordinator) → IsEventOf (record { surface = id; act = act }) old new mounted mounted before after came
-  pub order : IsInOrder new id after
-  pub elsewhere : KeepsElsewhere id before after
-
--- an event of a mount on the surface of that id: what it says, and what it leaves in order
-pub record HasPulled (id : ℕ) (old new : Told) (was is : Option PlainCoordinator) (before after : RunningActor) (came : Event) : Type 0 where
-  pub event : IsEventOf (record { surface = id; act = mount }) old new was is before after came
-  pub order : IsInOrder new id after
-  pub elsewhere : KeepsElsewhere id before after
 
 -- a commit ended with that answer, and the actor holds that revision on the surface of that id
 pub record HasEndedWith (id : ℕ) (answer : Answer) (now : KeptRevision) (before after : RunningActor) : Type 0 where
@@ -43,3 +23,26 @@ pub record HasEndedWith (id : ℕ) (answer : Answer) (now : KeptRevision) (befor
 abbrev pub HasEnded : (id : ℕ) → Answer → Option KeptRevision → (before after : RunningActor) → Type 0
 HasEnded id answer None before after = after ≡ answered_as id answer before
 HasEnded id answer (Some now) before after = HasEndedWith id answer now before after
+
+-- where each commit asks for what is wished of it
+module _ (wish : Wish) where
+  -- a commit of an actor's step on the surface of that id may go on
+  pub record MayGoOn (told : Told) (id : ℕ) (under : PlainCommit) (actor : RunningActor) : Type 0 where
+    pub op : PlainOp
+    pub left : slice_get actor.left 0 ≡ Some (record { surface = id; act = commit op })
+    pub reached : length told.seen ≤ told.floor
+    pub holding : IsHolding told id actor
+    pub under_way : IsUnderWay wish told (commit_record id op actor) under
+    pub permit : 1 ≤ told.permits
+
+  -- an event of an act that mounts nothing, on the surface of that id: what it says, and what it leaves in order
+  pub record HasGoneOn (id : ℕ) (act : PlainAct) (old new : Told) (before after : RunningActor) (came : Event) : Type 0 where
+    pub event : (mounted : Option PlainCoordinator) → IsEventOf wish (record { surface = id; act = act }) old new mounted mounted before after came
+    pub order : IsInOrder wish new id after
+    pub elsewhere : KeepsElsewhere id before after
+
+  -- an event of a mount on the surface of that id: what it says, and what it leaves in order
+  pub record HasPulled (id : ℕ) (old new : Told) (was is : Option PlainCoordinator) (before after : RunningActor) (came : Event) : Type 0 where
+    pub event : IsEventOf wish (record { surface = id; act = mount }) old new was is before after came
+    pub order : IsInOrder wish new id after
+    pub elsewhere : KeepsElsewhere id before after

@@ -7,6 +7,7 @@ ghost use Rattle.tree_revision.specs.Records.{PlainOp, plain_op};
 ghost use Rattle.tree_revision.specs.Script.{PlainStep, commit as commit_of, hold as held_step, mount as mount_step};
 ghost use Rattle.tree_revision.specs.Settled.{KeptRevision};
 ghost use Rattle.tree_revision.specs.Ports.{Told, Lasts};
+ghost use Rattle.tree_revision.specs.Wishes.{Wish};
 ghost use Rattle.tree_revision.specs.declared.record.Answer.TheVariants.{Mounted};
 ghost use Rattle.commit_core.specs.Commit.{looked_at};
 ghost use Rattle.mount_coordinator.specs.Mounted.{PlainCoordinator};
@@ -18,7 +19,7 @@ ghost use Rattle.run_actor.specs.Actions.{answered_as, begun_actor, with_commit,
 ghost use Rattle.run_actor.specs.Event.{IsEventOf, IsHolding, IsInOrder, IsUnderWay, KeepsElsewhere, MayAct, MayMount, mount_by, step_name};
 ghost use Rattle.run_actor.specs.Steps.{HasEnded, HasGoneOn, HasPulled, MayGoOn};
 
-use commit_core::{Committer, Progress};
+use commit_core::{Hook, HookedCommitter, Progress};
 use indexmap::IndexMap;
 use mount_coordinator::{Coordinator, Pulled, Transaction};
 use run_report::{ActorPart, MountPart, StepName, StepPart};
@@ -55,7 +56,7 @@ pub struct Actor<'a> {
     /// The revision that it holds on each surface.
     held: IndexMap<u32, Revision>,
     /// The commit under way, where its step is a commit that has begun.
-    commit: Option<Committer>,
+    commit: Option<HookedCommitter>,
 }
 
 impl<'a> Model for Actor<'a> {
@@ -149,29 +150,30 @@ impl<'a> Actor<'a> {
     }
 
     /// One event of the step that it is at, at the port of the step's surface. On a step that is no
-    /// mount `mount` stays.
+    /// mount `mount` stays. A commit asks at each look for what the hook wishes of its change.
     ///
     /// After `Busy` and `Memory` the actor and `mount` are as before. An offer never answers `Memory`.
-    pub fn event<P: Port>(
+    pub fn event<P: Port, H: Hook>(
         &mut self,
         alloc: Global,
         made: &mut Made,
         port: &mut P,
         mount: &mut Option<Coordinator>,
+        hook: &H,
     ) -> Event
-        requires { MayAct (P.told port.old) mount.old self.old }
+        requires { MayAct (H.wish hook.now) (P.told port.old) mount.old self.old }
         ensures lasts { Lasts (P.told port.old) (P.told port.new) }
-        ensures event { (step : PlainStep) → slice_get self.old.left 0 ≡ Some step → IsEventOf step (P.told port.old) (P.told port.new) mount.old mount.new self.old self.new result }
-        ensures order { (step : PlainStep) → slice_get self.old.left 0 ≡ Some step → IsInOrder (P.told port.new) step.surface self.new }
+        ensures event { (step : PlainStep) → slice_get self.old.left 0 ≡ Some step → IsEventOf (H.wish hook.now) step (P.told port.old) (P.told port.new) mount.old mount.new self.old self.new result }
+        ensures order { (step : PlainStep) → slice_get self.old.left 0 ≡ Some step → IsInOrder (H.wish hook.now) (P.told port.new) step.surface self.new }
         ensures elsewhere { (step : PlainStep) → slice_get self.old.left 0 ≡ Some step → KeepsElsewhere step.surface self.old self.new }
     {
         let Some(step) = self.step() else {
             unreachable!()
         };
         match &step.act {
-            Act::Commit(op) => self.commit(alloc, made, port, step.surface, op),
-            Act::Hold => self.hold(port, step.surface),
-            Act::Mount => self.pull(alloc, port, step.surface, mount),
+            Act::Commit(op) => self.commit(alloc, made, port, step.surface, op, hook),
+            Act::Hold => self.hold(port, step.surface, hook),
+            Act::Mount => self.pull(alloc, port, step.surface, mount, hook),
         }
     }
 
@@ -201,7 +203,7 @@ impl<'a> Actor<'a> {
     }
 
     /// Takes the commit under way out.
-    fn take_commit(&mut self) -> Option<Committer>
+    fn take_commit(&mut self) -> Option<HookedCommitter>
         ensures commit { result ≡ self.old.commit }
         ensures rest { self.new ≡ with_commit None self.old }
     {
@@ -209,7 +211,7 @@ impl<'a> Actor<'a> {
     }
 
     /// Puts the commit under way back.
-    fn keep_commit(&mut self, commit: Committer)
+    fn keep_commit(&mut self, commit: HookedCommitter)
         ensures { self.new ≡ with_commit (Some commit) self.old }
     {
         self.commit = Some(commit);
@@ -266,47 +268,49 @@ impl<'a> Actor<'a> {
     }
 
     /// An event of a commit: of the one under way, or the first look of one that begins.
-    fn commit<P: Port>(
+    fn commit<P: Port, H: Hook>(
         &mut self,
         alloc: Global,
         made: &mut Made,
         port: &mut P,
         id: u32,
         op: &Arc<Op>,
+        hook: &H,
     ) -> Event
         requires left { slice_get self.old.left 0 ≡ Some (record { surface = id; act = commit_of (plain_op op.now.value) }) }
         requires in_range { IsOpInRange (plain_op op.now.value) }
-        requires order { IsInOrder (P.told port.old) id self.old }
+        requires order { IsInOrder (H.wish hook.now) (P.told port.old) id self.old }
         requires permit { 1 ≤ (P.told port.old).permits }
         ensures lasts { Lasts (P.told port.old) (P.told port.new) }
-        ensures gone { HasGoneOn id (commit_of (plain_op op.now.value)) (P.told port.old) (P.told port.new) self.old self.new result }
+        ensures gone { HasGoneOn (H.wish hook.now) id (commit_of (plain_op op.now.value)) (P.told port.old) (P.told port.new) self.old self.new result }
     {
         match self.take_commit() {
-            Some(commit) => self.go_on(alloc, made, port, id, commit),
+            Some(commit) => self.go_on(alloc, made, port, id, commit, hook),
             None => match self.begin(id, op) {
-                Ok(commit) => self.look_first(alloc, made, port, id, commit),
+                Ok(commit) => self.look_first(alloc, made, port, id, commit, hook),
                 Err(_) => Event::Memory,
             },
         }
     }
 
     /// The first look of a commit that begins. Where it does not come about, none has begun.
-    fn look_first<P: Port>(
+    fn look_first<P: Port, H: Hook>(
         &mut self,
         alloc: Global,
         made: &mut Made,
         port: &mut P,
         id: u32,
-        commit: Committer,
+        commit: HookedCommitter,
+        hook: &H,
     ) -> Event
-        requires may { MayGoOn (P.told port.old) id commit self.old }
+        requires may { MayGoOn (H.wish hook.now) (P.told port.old) id commit self.old }
         requires none { self.old.commit ≡ None }
         requires tries { commit.tries ≡ 0 }
         requires looked { looked_at commit ≡ None }
         ensures lasts { Lasts (P.told port.old) (P.told port.new) }
-        ensures gone { (op : PlainOp) → slice_get self.old.left 0 ≡ Some (record { surface = id; act = commit_of op }) → HasGoneOn id (commit_of op) (P.told port.old) (P.told port.new) self.old self.new result }
+        ensures gone { (op : PlainOp) → slice_get self.old.left 0 ≡ Some (record { surface = id; act = commit_of op }) → HasGoneOn (H.wish hook.now) id (commit_of op) (P.told port.old) (P.told port.new) self.old self.new result }
     {
-        match self.go_on(alloc, made, port, id, commit) {
+        match self.go_on(alloc, made, port, id, commit, hook) {
             Event::Did => Event::Did,
             Event::Busy => {
                 self.end_commit();
@@ -320,10 +324,10 @@ impl<'a> Actor<'a> {
     }
 
     /// The commit of its step, before the first look.
-    fn begin(&self, id: u32, op: &Arc<Op>) -> Result<Committer, AllocError>
+    fn begin(&self, id: u32, op: &Arc<Op>) -> Result<HookedCommitter, AllocError>
         requires in_range { IsOpInRange (plain_op op.now.value) }
         requires holding { (told : Told) × IsHolding told id self.now }
-        ensures under_way { IfOk result (λ begun. (told : Told) → IsHolding told id self.now → IsUnderWay told (commit_record id (plain_op op.now.value) self.now) begun) }
+        ensures under_way { IfOk result (λ begun. (wish : Wish) (told : Told) → IsHolding told id self.now → IsUnderWay wish told (commit_record id (plain_op op.now.value) self.now) begun) }
         ensures tries { IfOk result (λ begun. begun.tries ≡ 0) }
         ensures looked { IfOk result (λ begun. looked_at begun ≡ None) }
     {
@@ -337,23 +341,24 @@ impl<'a> Actor<'a> {
             held: held.number(),
             op: Arc::try_clone(op)?,
         };
-        Ok(Committer::start(entry, held.share()?))
+        Ok(HookedCommitter::start(entry, held.share()?))
     }
 
     /// An event of the commit under way: a look or an offer.
-    fn go_on<P: Port>(
+    fn go_on<P: Port, H: Hook>(
         &mut self,
         alloc: Global,
         made: &mut Made,
         port: &mut P,
         id: u32,
-        mut commit: Committer,
+        mut commit: HookedCommitter,
+        hook: &H,
     ) -> Event
-        requires { MayGoOn (P.told port.old) id commit self.old }
+        requires { MayGoOn (H.wish hook.now) (P.told port.old) id commit self.old }
         ensures lasts { Lasts (P.told port.old) (P.told port.new) }
-        ensures gone { (op : PlainOp) → slice_get self.old.left 0 ≡ Some (record { surface = id; act = commit_of op }) → HasGoneOn id (commit_of op) (P.told port.old) (P.told port.new) (with_commit (Some commit) self.old) self.new result }
+        ensures gone { (op : PlainOp) → slice_get self.old.left 0 ≡ Some (record { surface = id; act = commit_of op }) → HasGoneOn (H.wish hook.now) id (commit_of op) (P.told port.old) (P.told port.new) (with_commit (Some commit) self.old) self.new result }
     {
-        match commit.turn(alloc, made, port) {
+        match commit.turn(alloc, made, port, hook) {
             Progress::Looked { .. } => {
                 self.keep_commit(commit);
                 Event::Did
@@ -393,11 +398,11 @@ impl<'a> Actor<'a> {
     }
 
     /// A hold, of the newest revision.
-    fn hold<P: Port>(&mut self, port: &mut P, id: u32) -> Event
+    fn hold<P: Port, H: Hook>(&mut self, port: &mut P, id: u32, _hook: &H) -> Event
         requires left { slice_get self.old.left 0 ≡ Some (record { surface = id; act = held_step }) }
-        requires order { IsInOrder (P.told port.old) id self.old }
+        requires order { IsInOrder (H.wish _hook.now) (P.told port.old) id self.old }
         ensures lasts { Lasts (P.told port.old) (P.told port.new) }
-        ensures gone { HasGoneOn id held_step (P.told port.old) (P.told port.new) self.old self.new result }
+        ensures gone { HasGoneOn (H.wish _hook.now) id held_step (P.told port.old) (P.told port.new) self.old self.new result }
     {
         match port.try_look() {
             Ok(front) => {
@@ -412,18 +417,19 @@ impl<'a> Actor<'a> {
     }
 
     /// A mount, of the revision that may be mounted.
-    fn pull<P: Port>(
+    fn pull<P: Port, H: Hook>(
         &mut self,
         alloc: Global,
         port: &mut P,
         id: u32,
         mount: &mut Option<Coordinator>,
+        _hook: &H,
     ) -> Event
         requires left { slice_get self.old.left 0 ≡ Some (record { surface = id; act = mount_step }) }
-        requires order { IsInOrder (P.told port.old) id self.old }
+        requires order { IsInOrder (H.wish _hook.now) (P.told port.old) id self.old }
         requires may { MayMount (P.told port.old) mount.old }
         ensures lasts { Lasts (P.told port.old) (P.told port.new) }
-        ensures pulled { HasPulled id (P.told port.old) (P.told port.new) mount.old mount.new self.old self.new result }
+        ensures pulled { HasPulled (H.wish _hook.now) id (P.told port.old) (P.told port.new) mount.old mount.new self.old self.new result }
     {
         let Some(coordinator) = mount else {
             unreachable!()

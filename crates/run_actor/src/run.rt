@@ -3,6 +3,7 @@
 ghost use Rattle.std.specs.Prelude.{◌≡◌, ℕ, false, Contains, OnOk, Some, nat_eq, option_map, slice_get};
 ghost use Rattle.indexmap.specs.IndexMap.{get, keys};
 ghost use Rattle.tree_revision.specs.Script.{PlainStep};
+ghost use Rattle.tree_revision.specs.Wishes.{as_written};
 ghost use Rattle.run_actor.specs.Event.{MayAct};
 ghost use Rattle.run_actor.specs.Runs.{HasRun, HasRunOn, IsBegun, MayBegin};
 ghost use Rattle.run_actor.specs.Running.{HasActed};
@@ -10,6 +11,7 @@ ghost use Rattle.run_actor.specs.Running.{HasActed};
 use crate::actors::{Actor, Event};
 use crate::desks::Desk;
 use crate::gate::Gate;
+use commit_core::AsWritten;
 use indexmap::IndexMap;
 use run_report::StepName;
 use shadow_node::Made;
@@ -62,7 +64,7 @@ fn event_at_desk<P: Port>(
     id: u32,
 ) -> Result<(), AllocError>
     requires step { option_map (λ step. step.surface) (slice_get actor.old.left 0) ≡ Some id }
-    requires desk { (desk : Desk P) × (get nat_eq desks.old id ≡ Some desk) × MayAct (P.told desk.port) desk.mount actor.old }
+    requires desk { (desk : Desk P) × (get nat_eq desks.old id ≡ Some desk) × MayAct as_written (P.told desk.port) desk.mount actor.old }
     ensures keys { keys desks.new ≡ keys desks.old }
     ensures others { (other : ℕ) → nat_eq id other ≡ false → get nat_eq desks.new other ≡ get nat_eq desks.old other }
     ensures acted { OnOk result ((was is : Desk P) → get nat_eq desks.old id ≡ Some was → get nat_eq desks.new id ≡ Some is
@@ -71,7 +73,7 @@ fn event_at_desk<P: Port>(
     let Some(desk) = desks.get_mut(&id) else {
         unreachable!()
     };
-    match actor.event(alloc, made, &mut desk.port, &mut desk.mount) {
+    match actor.event(alloc, made, &mut desk.port, &mut desk.mount, &AsWritten) {
         Event::Did => Ok(()),
         Event::Busy => {
             thread::yield_now();

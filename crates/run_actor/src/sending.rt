@@ -9,7 +9,7 @@ ghost use Rattle.run_report.specs.contracts.journal.StepPart as answer_type;
 ghost use Rattle.script_read.specs.contracts.script.Step as step_type;
 ghost use Rattle.tree_revision.specs.contracts.revision.Revision as revision_type;
 
-use commit_core::commits_are_sent;
+use commit_core::hooked_commits_are_sent;
 use run_report::{MountPart, StepPart};
 use script_read::Step;
 use tree_revision::Revision;
@@ -60,5 +60,5 @@ pub fn actors_are_sent()
     answers_are_sent();
     mounts_are_sent();
     revisions_are_sent();
-    commits_are_sent();
+    hooked_commits_are_sent();
 }

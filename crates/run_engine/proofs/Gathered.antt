@@ -189,62 +189,6 @@ gathered_along id along workers each =
     ∙ ap (map along) (sym (passages_same id 0 (actors_of workers))
     ∙ ap (passages_named id) (map-map (λ (actor : RunningActor). actor_part_of (actor_now actor)) (λ (worker : Worker). worker.actor) workers ∙ sym (map-map actor_part_of worker_now workers)))
 
--- a surface's mounts lie along the passages that the answers of all actors name, and these lead to its base
-module _ (run : Run) (come : HasCome run) where
-  -- the passages on the surface of an id
-  abbrev pub named : ℕ → List Passage
-  named id = passages_named id (map actor_part_of (map worker_now run.workers.items))
-
-  along_at : (place : ℕ) (entry : ℕ × PlainDesk) (mounts : List MountPart) → slice_get run.desks.entries place ≡ Some entry
-      → map plain_mount mounts ≡ mounts_of entry.0 (actors_of run.workers.items) → IsAlong named entry mounts
-  along_at place entry mounts at is =
-      let kept : IsSurfaceKept come.script (map worker_now run.workers.items) (surface_now entry) =
-      item_holds_at (IsSurfaceKept come.script (map worker_now run.workers.items)) (map surface_now run.desks.entries) place (surface_now entry) (kept_of run come).kept
-      (slice_get-map surface_now run.desks.entries place ∙ ap (option_map surface_now) at) in
-      record {
-        base = kept.last;
-        mounts = is ∙ gathered_along entry.0 (mount_along entry.1.port.spine.first (desk_records entry.1)) run.workers.items
-            (λ number worker to. (come.order.seated place entry number worker at to).mounts);
-      }
-
-  -- so do those of all
-  pub all_along : (lists : List (List MountPart)) → AreListed (λ id. mounts_of id (actors_of run.workers.items)) (keys_of run.desks.entries) lists → AllZip (IsAlong named) run.desks.entries lists
-  all_along lists = from 0 run.desks.entries lists (λ j entry at. let k : j ≡ 0 + j = omega arith in subst (λ k. slice_get run.desks.entries k ≡ Some entry) k at)
-    where
-      from : (n : ℕ) (entries : List (ℕ × PlainDesk)) (lists : List (List MountPart)) → ((j : ℕ) (entry : ℕ × PlainDesk) → slice_get entries j ≡ Some entry → slice_get run.desks.entries (n + j) ≡ Some entry)
-          → AreListed (λ id. mounts_of id (actors_of run.workers.items)) (keys_of entries) lists → AllZip (IsAlong named) entries lists
-      from n [] [] there all = tt
-      from n [] (mounts ∷ lists) there all = absurd all
-      from n (entry ∷ entries) [] there all = absurd all
-      from n (entry ∷ entries) (mounts ∷ lists) there all = (
-        along_at (n + 0) entry mounts (there 0 entry refl) all.0,
-        from (n + 1) entries lists
-            (λ j other at. let k : n + suc j ≡ n + 1 + j = omega arith in subst (λ k. slice_get run.desks.entries k ≡ Some other) k (there (suc j) other at)) all.1,
-      )
-
-  -- each surface is mounted
-  pub all_open : AllByRecursion (λ entry. IsOpen entry.1) run.desks.entries
-  all_open = from 0 run.desks.entries (λ j entry at. let k : j ≡ 0 + j = omega arith in subst (λ k. slice_get run.desks.entries k ≡ Some entry) k at)
-    where
-      from : (n : ℕ) (entries : List (ℕ × PlainDesk)) → ((j : ℕ) (entry : ℕ × PlainDesk) → slice_get entries j ≡ Some entry → slice_get run.desks.entries (n + j) ≡ Some entry)
-          → AllByRecursion (λ entry. IsOpen entry.1) entries
-      from n [] there = tt
-      from n (entry ∷ entries) there = (
-        come.order.open_at (n + 0) entry (there 0 entry refl),
-        from (n + 1) entries
-            (λ j other at. let k : n + suc j ≡ n + 1 + j = omega arith in subst (λ k. slice_get run.desks.entries k ≡ Some other) k (there (suc j) other at)),
-      )
-
-  -- the ids of the surfaces differ
-  pub ids_apart : IsDistinct nat_eq (keys_of run.desks.entries)
-  ids_apart = subst (IsDistinct nat_eq) (sym (ids_same come.script.surfaces run.desks.entries (kept_of run come).surfaces)) come.sound.ids_differ
-    where
-      ids_same : (surfaces : List PlainSurface) (entries : List (ℕ × PlainDesk)) → AllZip IsSurfaceOf surfaces (map surface_now entries) → keys_of entries ≡ ids_of surfaces
-      ids_same [] [] all = refl
-      ids_same [] (entry ∷ entries) all = absurd all
-      ids_same (surface ∷ surfaces) [] all = absurd all
-      ids_same (surface ∷ surfaces) (entry ∷ entries) all = λ i. all.0.id i ∷ ids_same surfaces entries all.1 i
-
 -- a surface further: what is left of the surfaces and of their lists
 pub along_next : (told : ℕ → List Passage) (rest more : List (ℕ × PlainDesk)) (lists later : List (List MountPart)) (entry : ℕ × PlainDesk) (mounts : List MountPart)
     → rest ≡ entry ∷ more → lists ≡ mounts ∷ later → AllZip (IsAlong told) rest lists → IsAlong told entry mounts × AllZip (IsAlong told) more later
@@ -301,3 +245,61 @@ pub lists_begun : (ids : List ℕ) (count : ℕ) (lists : List (List MountPart))
 lists_begun ids count lists same is =
     let all : AreListed (λ id. []) ids lists = subst (AreListed (λ id. []) ids) (sym is) (listed_empty ids count same) in
     (all_zip_length (λ id mounts. map plain_mount mounts ≡ []) ids lists all, all)
+
+-- where each commit asks for what is wished of it
+module _ (wish : Wish) where
+  -- a surface's mounts lie along the passages that the answers of all actors name, and these lead to its base
+  module _ (run : Run) (come : HasCome wish run) where
+    -- the passages on the surface of an id
+    abbrev pub named : ℕ → List Passage
+    named id = passages_named id (map actor_part_of (map worker_now run.workers.items))
+
+    along_at : (place : ℕ) (entry : ℕ × PlainDesk) (mounts : List MountPart) → slice_get run.desks.entries place ≡ Some entry
+        → map plain_mount mounts ≡ mounts_of entry.0 (actors_of run.workers.items) → IsAlong named entry mounts
+    along_at place entry mounts at is =
+        let kept : IsHookedSurface wish come.script (map worker_now run.workers.items) (surface_now entry) =
+        item_holds_at (IsHookedSurface wish come.script (map worker_now run.workers.items)) (map surface_now run.desks.entries) place (surface_now entry) (kept_of wish run come).kept
+        (slice_get-map surface_now run.desks.entries place ∙ ap (option_map surface_now) at) in
+        record {
+          base = kept.last;
+          mounts = is ∙ gathered_along entry.0 (mount_along entry.1.port.spine.first (desk_records entry.1)) run.workers.items
+              (λ number worker to. (come.order.seated place entry number worker at to).mounts);
+        }
+
+    -- so do those of all
+    pub all_along : (lists : List (List MountPart)) → AreListed (λ id. mounts_of id (actors_of run.workers.items)) (keys_of run.desks.entries) lists → AllZip (IsAlong named) run.desks.entries lists
+    all_along lists = from 0 run.desks.entries lists (λ j entry at. let k : j ≡ 0 + j = omega arith in subst (λ k. slice_get run.desks.entries k ≡ Some entry) k at)
+      where
+        from : (n : ℕ) (entries : List (ℕ × PlainDesk)) (lists : List (List MountPart)) → ((j : ℕ) (entry : ℕ × PlainDesk) → slice_get entries j ≡ Some entry → slice_get run.desks.entries (n + j) ≡ Some entry)
+            → AreListed (λ id. mounts_of id (actors_of run.workers.items)) (keys_of entries) lists → AllZip (IsAlong named) entries lists
+        from n [] [] there all = tt
+        from n [] (mounts ∷ lists) there all = absurd all
+        from n (entry ∷ entries) [] there all = absurd all
+        from n (entry ∷ entries) (mounts ∷ lists) there all = (
+          along_at (n + 0) entry mounts (there 0 entry refl) all.0,
+          from (n + 1) entries lists
+              (λ j other at. let k : n + suc j ≡ n + 1 + j = omega arith in subst (λ k. slice_get run.desks.entries k ≡ Some other) k (there (suc j) other at)) all.1,
+        )
+
+    -- each surface is mounted
+    pub all_open : AllByRecursion (λ entry. IsOpen entry.1) run.desks.entries
+    all_open = from 0 run.desks.entries (λ j entry at. let k : j ≡ 0 + j = omega arith in subst (λ k. slice_get run.desks.entries k ≡ Some entry) k at)
+      where
+        from : (n : ℕ) (entries : List (ℕ × PlainDesk)) → ((j : ℕ) (entry : ℕ × PlainDesk) → slice_get entries j ≡ Some entry → slice_get run.desks.entries (n + j) ≡ Some entry)
+            → AllByRecursion (λ entry. IsOpen entry.1) entries
+        from n [] there = tt
+        from n (entry ∷ entries) there = (
+          come.order.open_at (n + 0) entry (there 0 entry refl),
+          from (n + 1) entries
+              (λ j other at. let k : n + suc j ≡ n + 1 + j = omega arith in subst (λ k. slice_get run.desks.entries k ≡ Some other) k (there (suc j) other at)),
+        )
+
+    -- the ids of the surfaces differ
+    pub ids_apart : IsDistinct nat_eq (keys_of run.desks.entries)
+    ids_apart = subst (IsDistinct nat_eq) (sym (ids_same come.script.surfaces run.desks.entries (kept_of wish run come).surfaces)) come.sound.ids_differ
+      where
+        ids_same : (surfaces : List PlainSurface) (entries : List (ℕ × PlainDesk)) → AllZip IsSurfaceOf surfaces (map surface_now entries) → keys_of entries ≡ ids_of surfaces
+        ids_same [] [] all = refl
+        ids_same [] (entry ∷ entries) all = absurd all
+        ids_same (surface ∷ surfaces) [] all = absurd all
+        ids_same (surface ∷ surfaces) (entry ∷ entries) all = λ i. all.0.id i ∷ ids_same surfaces entries all.1 i

@@ -72,19 +72,21 @@ ending_next actors i actor within is =
     ∙ flat_map_push f (enumerate_from 0 before) (0 + length before, plain_actor actor)
     ∙ (λ j. ending_turns before ++ replicate (3 * length-map actor.steps plain_step j) (n j))
 
--- a run that has taken them, an actor further
-pub ended_next : (start old new : RunNow) (turns : List ℕ) (actors read : List ActorPlan) (i : ℕ) (actor : ActorPlan) (count : ℕ) → read ≡ actors → i < length read → actor ≡ get_or read i actor
-    → count ≡ length actor.steps
-    → old ≡ fold after_turn start (turns ++ ending_turns (map plain_actor (take i actors))) → new ≡ fold after_turn old (replicate (3 * count) i)
-    → new ≡ fold after_turn start (turns ++ ending_turns (map plain_actor (take (i + 1) actors)))
-ended_next start old new turns actors read i actor count same below item counted was now =
-    let within : i < length actors = omega (arith, below, ap length same) in
-    let is : actor ≡ get_or actors i actor = item ∙ ap (λ l. get_or l i actor) same in
-    let before : List ℕ = ending_turns (map plain_actor (take i actors)) in
-    now ∙ (λ j. fold after_turn (was j) (replicate (3 * counted j) i))
-    ∙ sym (fold-append after_turn start (turns ++ before) (replicate (3 * length actor.steps) i))
-    ∙ ap (fold after_turn start) (append_assoc turns before (replicate (3 * length actor.steps) i) ∙ ap (λ l. turns ++ l) (sym (ending_next actors i actor within is)))
-
 -- what was read at a place below the length
 pub at_item : {A : Type 0} (xs : List A) (i : ℕ) (x : A) → x ≡ get_or xs i x → i < length xs → slice_get xs i ≡ Some x
 at_item xs i x is h = there_at xs i x h ∙ ap Some (sym is)
+
+-- where each commit asks for what is wished of it
+module _ (wish : Wish) where
+  -- a run that has taken them, an actor further
+  pub ended_next : (start old new : RunNow) (turns : List ℕ) (actors read : List ActorPlan) (i : ℕ) (actor : ActorPlan) (count : ℕ) → read ≡ actors → i < length read → actor ≡ get_or read i actor
+      → count ≡ length actor.steps
+      → old ≡ fold (after_hooked_turn wish) start (turns ++ ending_turns (map plain_actor (take i actors))) → new ≡ fold (after_hooked_turn wish) old (replicate (3 * count) i)
+      → new ≡ fold (after_hooked_turn wish) start (turns ++ ending_turns (map plain_actor (take (i + 1) actors)))
+  ended_next start old new turns actors read i actor count same below item counted was now =
+      let within : i < length actors = omega (arith, below, ap length same) in
+      let is : actor ≡ get_or actors i actor = item ∙ ap (λ l. get_or l i actor) same in
+      let before : List ℕ = ending_turns (map plain_actor (take i actors)) in
+      now ∙ (λ j. fold (after_hooked_turn wish) (was j) (replicate (3 * counted j) i))
+      ∙ sym (fold-append (after_hooked_turn wish) start (turns ++ before) (replicate (3 * length actor.steps) i))
+      ∙ ap (fold (after_hooked_turn wish) start) (append_assoc turns before (replicate (3 * length actor.steps) i) ∙ ap (λ l. turns ++ l) (sym (ending_next actors i actor within is)))

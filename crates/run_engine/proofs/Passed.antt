@@ -50,21 +50,6 @@ pulled_whole old new was is (Transaction transaction) answer = looked_whole old 
 pulled_whole old new was is (Empty at) answer = looked_whole old new answer.0
 pulled_whole old new was is Busy answer = same_whole old.whole new.whole answer.0.whole
 
--- an event that took place takes no record away
-pub done_whole : (id : ℕ) (act : PlainAct) (old new : Told) (was is : Option PlainCoordinator) (before after : RunningActor)
-    → HasDone id act old new was is before after → AreNoFewer old.whole new.whole
-done_whole id (commit op) old new was is before after done =
-    ⊎_elim (λ look. looked_whole old new look.look)
-    (λ offer. ⊎_elim
-    (λ admitted entries entries' e e'.
-    let whole = admitted.offer.whole entries e in
-    let seen : new.seen ≡ entries' = same_Some new.seen entries' (sym whole.1 ∙ e') in
-    omega (arith, ap (λ (l : List PlainRecord). length l) whole.0, ap (λ (l : List PlainRecord). length l) seen, ap (λ (l : List PlainRecord). length l) admitted.offer.seen, length-append old.seen (commit_record id op before ∷ [])))
-    (λ late. same_whole old.whole new.whole late.stays.whole) offer)
-    done.0
-done_whole id hold old new was is before after done = looked_whole old new done.0.look
-done_whole id mount old new was is before after done = pulled_whole old new done.from done.to done.pulled done.answer
-
 -- two items set at one place, of which the second stays
 pub set_twice : {A : Type 0} (xs : List A) (i : ℕ) (x y : A) → slice_set (slice_set xs i x) i y ≡ slice_set xs i y
 set_twice [] i x y = refl
@@ -97,3 +82,20 @@ told_back port new pass same back own = λ i. record {
   looks = (sym back i).looks;
   whole = Some (records_of (sym same i));
 }
+
+-- where each commit asks for what is wished of it
+module _ (wish : Wish) where
+  -- an event that took place takes no record away
+  pub done_whole : (id : ℕ) (act : PlainAct) (old new : Told) (was is : Option PlainCoordinator) (before after : RunningActor)
+      → HasDone wish id act old new was is before after → AreNoFewer old.whole new.whole
+  done_whole id (commit op) old new was is before after done =
+      ⊎_elim (λ look. looked_whole old new look.look)
+      (λ offer. ⊎_elim
+      (λ admitted entries entries' e e'.
+      let whole = admitted.offer.whole entries e in
+      let seen : new.seen ≡ entries' = same_Some new.seen entries' (sym whole.1 ∙ e') in
+      omega (arith, ap (λ (l : List PlainRecord). length l) whole.0, ap (λ (l : List PlainRecord). length l) seen, ap (λ (l : List PlainRecord). length l) admitted.offer.seen, length-append old.seen (commit_record id op before ∷ [])))
+      (λ late. same_whole old.whole new.whole late.stays.whole) offer)
+      done.0
+  done_whole id hold old new was is before after done = looked_whole old new done.0.look
+  done_whole id mount old new was is before after done = pulled_whole old new done.from done.to done.pulled done.answer

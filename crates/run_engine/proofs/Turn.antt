@@ -16,50 +16,52 @@ use Rattle.run_engine.specs.Turns.{MayTurn, IsTurn}
 use Rattle.run_engine.specs.Run.{AreInOrder, HasCome, HasTurned}
 use Rattle.run_engine.proofs.Turned.{first_of, may_turn, turned_now, turned_order}
 
--- what a run keeps
-pub kept_of : (run : Run) (come : HasCome run) → IsRunOf come.script (run_now run)
-kept_of run come = subst (IsRunOf come.script) (sym come.now) (turns_kept come.script come.sound (run_of come.script) (run_begun come.script) come.turns)
+-- where each commit asks for what is wished of it
+module _ (wish : Wish) where
+  -- what a run keeps
+  pub kept_of : (run : Run) (come : HasCome wish run) → IsHookedRun wish come.script (run_now run)
+  kept_of run come = subst (IsHookedRun wish come.script) (sym come.now) (turns_kept come.script come.sound (run_of come.script) (hooked_run_begun wish come.script) come.turns)
 
-module _ (run : Run) (come : HasCome run) (number : ℕ) (worker : Worker) (at : slice_get run.workers.items number ≡ Some worker) where
-  -- no event takes place where no step is left
-  pub has_ended : worker.actor.left ≡ [] → HasTurned run run number
-  has_ended none = record {
-    now = sym (ap (after_event_of (run_now run) number) (slice_get-map worker_now run.workers.items number ∙ ap (option_map worker_now) at)
-        ∙ ap (after_event_by (run_now run) number (worker_now worker)) none);
-    come = come;
-  }
-
-  module _ (step : PlainStep) (left : slice_get worker.actor.left 0 ≡ Some step) where
-    -- no event takes place where no surface is found
-    pub has_rested : find (λ surface. nat_eq surface.id step.surface) (map surface_now run.desks.entries) ≡ None → HasTurned run run number
-    has_rested none = record {
-      now = sym (ap (after_event_of (run_now run) number) (slice_get-map worker_now run.workers.items number ∙ ap (option_map worker_now) at)
-          ∙ ap (after_event_by (run_now run) number (worker_now worker)) (first_of step worker.actor.left left).1
-          ∙ ap (after_event_on (run_now run) number (worker_now worker) step.act) none);
+  module _ (run : Run) (come : HasCome wish run) (number : ℕ) (worker : Worker) (at : slice_get run.workers.items number ≡ Some worker) where
+    -- no event takes place where no step is left
+    pub has_ended : worker.actor.left ≡ [] → HasTurned wish run run number
+    has_ended none = record {
+      now = sym (ap (after_hooked_event_of wish (run_now run) number) (slice_get-map worker_now run.workers.items number ∙ ap (option_map worker_now) at)
+          ∙ ap (after_hooked_event_by wish (run_now run) number (worker_now worker)) none);
       come = come;
     }
 
-    module _ (place : ℕ) (desk : PlainDesk) (there : slice_get run.desks.entries place ≡ Some (step.surface, desk)) where
-      -- the event may take place
-      pub may_take_turn : MayTurn place desk worker
-      may_take_turn = may_turn come.script come.sound run.desks.entries run.workers.items (kept_of run come) come.order number worker at step left place desk there
+    module _ (step : PlainStep) (left : slice_get worker.actor.left 0 ≡ Some step) where
+      -- no event takes place where no surface is found
+      pub has_rested : find (λ surface. nat_eq surface.id step.surface) (map surface_now run.desks.entries) ≡ None → HasTurned wish run run number
+      has_rested none = record {
+        now = sym (ap (after_hooked_event_of wish (run_now run) number) (slice_get-map worker_now run.workers.items number ∙ ap (option_map worker_now) at)
+            ∙ ap (after_hooked_event_by wish (run_now run) number (worker_now worker)) (first_of step worker.actor.left left).1
+            ∙ ap (after_hooked_event_on wish (run_now run) number (worker_now worker) step.act) none);
+        come = come;
+      }
 
-      -- and leads the run on
-      pub has_turned : (new : PlainDesk) (after : Worker) (is : Run) → is.desks.entries ≡ slice_set run.desks.entries place (step.surface, new)
-          → is.workers.items ≡ slice_set run.workers.items number after → IsTurn place desk new worker after → HasTurned run is number
-      has_turned new after is desks_are workers_are turn =
-          let now : run_now is ≡ after_turn (run_now run) number =
-          (λ i. now_of (desks_are i) (workers_are i))
-          ∙ turned_now come.script come.sound run.desks.entries run.workers.items (kept_of run come) come.order number worker at step left place desk there new after turn in
-          record {
-            now = now;
-            come = record {
-              script = come.script;
-              sound = come.sound;
-              turns = come.turns ++ number ∷ [];
-              now = now ∙ ap (λ run. after_turn run number) come.now ∙ sym (fold_push after_turn (run_of come.script) come.turns number);
-              order = subst (λ desks. AreInOrder desks is.workers.items) (sym desks_are)
-                  (subst (AreInOrder (slice_set run.desks.entries place (step.surface, new))) (sym workers_are)
-                  (turned_order come.script come.sound run.desks.entries run.workers.items (kept_of run come) come.order number worker at step left place desk there new after turn));
-            };
-          }
+      module _ (place : ℕ) (desk : PlainDesk) (there : slice_get run.desks.entries place ≡ Some (step.surface, desk)) where
+        -- the event may take place
+        pub may_take_turn : MayTurn wish place desk worker
+        may_take_turn = may_turn wish come.script come.sound run.desks.entries run.workers.items (kept_of run come) come.order number worker at step left place desk there
+
+        -- and leads the run on
+        pub has_turned : (new : PlainDesk) (after : Worker) (is : Run) → is.desks.entries ≡ slice_set run.desks.entries place (step.surface, new)
+            → is.workers.items ≡ slice_set run.workers.items number after → IsTurn wish place desk new worker after → HasTurned wish run is number
+        has_turned new after is desks_are workers_are turn =
+            let now : run_now is ≡ after_hooked_turn wish (run_now run) number =
+            (λ i. now_of (desks_are i) (workers_are i))
+            ∙ turned_now wish come.script come.sound run.desks.entries run.workers.items (kept_of run come) come.order number worker at step left place desk there new after turn in
+            record {
+              now = now;
+              come = record {
+                script = come.script;
+                sound = come.sound;
+                turns = come.turns ++ number ∷ [];
+                now = now ∙ ap (λ run. after_hooked_turn wish run number) come.now ∙ sym (fold_push (after_hooked_turn wish) (run_of come.script) come.turns number);
+                order = subst (λ desks. AreInOrder wish desks is.workers.items) (sym desks_are)
+                    (subst (AreInOrder wish (slice_set run.desks.entries place (step.surface, new))) (sym workers_are)
+                    (turned_order wish come.script come.sound run.desks.entries run.workers.items (kept_of run come) come.order number worker at step left place desk there new after turn));
+              };
+            }

@@ -132,210 +132,212 @@ surface_in : Option PlainStep → ℕ
 surface_in (Some s) = s.surface
 surface_in None = 0
 
--- a turn, of the actor and on the surface of those places
-module _ (script : PlainScript) (sound : IsSoundScript script) (entries : List (ℕ × PlainDesk)) (workers : List Worker) (kept : IsRunOf script (now_of entries workers))
-    (order : AreInOrder entries workers) (number : ℕ) (worker : Worker) (at : slice_get workers number ≡ Some worker) (step : PlainStep)
-    (left : slice_get worker.actor.left 0 ≡ Some step) (place : ℕ) (desk : PlainDesk) (there : slice_get entries place ≡ Some (step.surface, desk)) where
-  now_at : slice_get (map worker_now workers) number ≡ Some (worker_now worker)
-  now_at = slice_get-map worker_now workers number ∙ ap (option_map worker_now) at
+-- where each commit asks for what is wished of it
+module _ (wish : Wish) where
+  -- a turn, of the actor and on the surface of those places
+  module _ (script : PlainScript) (sound : IsSoundScript script) (entries : List (ℕ × PlainDesk)) (workers : List Worker) (kept : IsHookedRun wish script (now_of entries workers))
+      (order : AreInOrder wish entries workers) (number : ℕ) (worker : Worker) (at : slice_get workers number ≡ Some worker) (step : PlainStep)
+      (left : slice_get worker.actor.left 0 ≡ Some step) (place : ℕ) (desk : PlainDesk) (there : slice_get entries place ≡ Some (step.surface, desk)) where
+    now_at : slice_get (map worker_now workers) number ≡ Some (worker_now worker)
+    now_at = slice_get-map worker_now workers number ∙ ap (option_map worker_now) at
 
-  surface_at : slice_get (map surface_now entries) place ≡ Some (surface_now (step.surface, desk))
-  surface_at = slice_get-map surface_now entries place ∙ ap (option_map surface_now) there
+    surface_at : slice_get (map surface_now entries) place ≡ Some (surface_now (step.surface, desk))
+    surface_at = slice_get-map surface_now entries place ∙ ap (option_map surface_now) there
 
-  rest : List PlainStep
-  rest = (first_of step worker.actor.left left).0
+    rest : List PlainStep
+    rest = (first_of step worker.actor.left left).0
 
-  left_is : worker.actor.left ≡ step ∷ rest
-  unfolding rest
-  left_is = (first_of step worker.actor.left left).1
+    left_is : worker.actor.left ≡ step ∷ rest
+    unfolding rest
+    left_is = (first_of step worker.actor.left left).1
 
-  own : (script_actor : PlainActor) × IsAtStep script (map worker_now workers) number script_actor (worker_now worker) step rest
-  own = at_step script sound (now_of entries workers) kept number (worker_now worker) step rest now_at left_is
+    own : (script_actor : PlainActor) × IsAtStep script (map worker_now workers) number script_actor (worker_now worker) step rest
+    own = at_step script sound (now_of entries workers) kept number (worker_now worker) step rest now_at left_is
 
-  distinct : IsDistinct nat_eq (map (λ (s : SurfaceNow). s.id) (map surface_now entries))
-  distinct = subst (IsDistinct nat_eq) (sym (same_ids script.surfaces (map surface_now entries) kept.surfaces)) sound.ids_differ
+    distinct : IsDistinct nat_eq (map (λ (s : SurfaceNow). s.id) (map surface_now entries))
+    distinct = subst (IsDistinct nat_eq) (sym (same_ids script.surfaces (map surface_now entries) kept.surfaces)) sound.ids_differ
 
-  surface_kept : IsSurfaceKept script (map worker_now workers) (surface_now (step.surface, desk))
-  surface_kept = all_there (IsSurfaceKept script (map worker_now workers)) (map surface_now entries) place (surface_now (step.surface, desk)) kept.kept surface_at
+    surface_kept : IsHookedSurface wish script (map worker_now workers) (surface_now (step.surface, desk))
+    surface_kept = all_there (IsHookedSurface wish script (map worker_now workers)) (map surface_now entries) place (surface_now (step.surface, desk)) kept.kept surface_at
 
-  seat : IsSeated place (step.surface, desk) number worker
-  seat = order.seated place (step.surface, desk) number worker there at
+    seat : IsSeated wish place (step.surface, desk) number worker
+    seat = order.seated place (step.surface, desk) number worker there at
 
-  opened : IsOpen desk
-  opened = order.open_at place (step.surface, desk) there
+    opened : IsOpen desk
+    opened = order.open_at place (step.surface, desk) there
 
-  needs : (act : PlainAct) → step.act ≡ act → HasNeeds (told_with seat.pass desk) desk.mount act
-  needs (commit op) is =
-      omega (
-        arith,
-        order.room_at place (step.surface, desk) there,
-        left_at_least step.surface (map worker_now workers) number (worker_now worker) now_at,
-        one_fewer step.surface op worker.actor.left (left ∙ (λ i. Some (record { surface = step.surface; act = is i }))),
-      )
-  needs hold is = tt
-  needs mount is =
-      let base : ℕ = opened.coordinator.base.number in
-      let mounted : number_mounted step.surface worker.actor.answers ≡ base =
-      surface_kept.mounters number own.0 (worker_now worker) own.1.script_at now_at (own_mount script (map worker_now workers) number own.0 (worker_now worker) step rest own.1 step.surface is refl)
-      ∙ ap base_of opened.mounted in
-      let low : base ≤ seat.pass.seen = omega (arith, mounted, seat.mounted) in
-      subst (MayMount (told_with seat.pass desk)) (sym opened.mounted)
-      (subst (λ l. IsBaseOf desk.port.spine.first opened.coordinator.base l) (sym (take-take base seat.pass.seen (desk_records desk) low)) opened.base)
-
-  -- the event may take place
-  pub may_turn : MayTurn place desk worker
-  may_turn = record {
-    pass = seat.pass;
-    at = seat.at;
-    reached = seat.reached;
-    may = record { step = step; left = left; order = seat.order; needs = needs step.act refl };
-  }
-
-  module _ (new : PlainDesk) (after : Worker) (turn : IsTurn place desk new worker after) where
-    changed : IsChange step.surface number step.act desk new turn.is worker.actor after.actor
-    changed =
-        change place step.surface number desk new turn.was turn.is worker after.actor opened (order.numbers number worker at) seat
-        (same_Some seat.pass turn.was (sym seat.at ∙ turn.was_at)) turn.reached turn.lasts step.act left (turn.event step left)
-
-    moment_is : moment (surface_now (step.surface, new)) (actor_now after.actor) ≡ after_event number step.act (surface_now (step.surface, desk)) (worker_now worker)
-    moment_is = changed.moment_is ∙ ap (λ number. after_event number step.act (surface_now (step.surface, desk)) (worker_now worker)) (order.numbers number worker at)
-
-    -- the run after it is the machine's
-    pub turned_now : now_of (slice_set entries place (step.surface, new)) (slice_set workers number after) ≡ after_turn (now_of entries workers) number
-    turned_now =
-        let run : RunNow = now_of entries workers in
-        let now : ActorNow = worker_now worker in
-        let found : find (λ surface. nat_eq surface.id step.surface) (map surface_now entries) ≡ Some (surface_now (step.surface, desk)) =
-        find_at (map surface_now entries) place step.surface (surface_now (step.surface, desk)) distinct surface_at refl in
-        let surfaces : map (λ (s : SurfaceNow). cond (nat_eq s.id step.surface) (surface_now (step.surface, new)) s) (map surface_now entries) ≡ map surface_now (slice_set entries place (step.surface, new)) =
-        set_by_id (map surface_now entries) place (surface_now (step.surface, desk)) (surface_now (step.surface, new)) distinct surface_at refl
-        ∙ sym (map-set surface_now entries place (step.surface, new)) in
-        (λ i. record { surfaces = sym surfaces i; actors = map-set worker_now workers number after i })
-        ∙ ap (with_moment run number) moment_is
-        ∙ sym (ap (after_event_on run number now step.act) found)
-        ∙ sym (ap (after_event_by run number now) left_is)
-        ∙ sym (ap (after_event_of run number) now_at)
-
-    stays : StaysElsewhere step.surface (worker_now worker) (worker_now after)
-    stays =
-        subst (StaysElsewhere step.surface (worker_now worker)) (sym (ap (λ (m : Moment). m.actor) moment_is))
-        (event_elsewhere number (surface_now (step.surface, desk)) (worker_now worker) step.act)
-
-    numbers : (j : ℕ) (x : Worker) → slice_get (slice_set workers number after) j ≡ Some x → x.actor.number ≡ j
-    numbers =
-        set_cases (λ j (x : Worker). x.actor.number ≡ j) workers number worker after at
-        ((turn.elsewhere step left).number ∙ order.numbers number worker at) (λ j x off to. order.numbers j x to)
-
-    left_now : (id : ℕ) → commits_left id (map worker_now (slice_set workers number after)) + count_by (commits_on id) worker.actor.left
-        ≡ commits_left id (map worker_now workers) + count_by (commits_on id) after.actor.left
-    left_now id =
-        ap (λ l. commits_left id l + count_by (commits_on id) worker.actor.left) (map-set worker_now workers number after)
-        ∙ left_set id (map worker_now workers) number (worker_now worker) (worker_now after) now_at
-
-    room_here : HasRoomForCommits (slice_set workers number after) (step.surface, new)
-    room_here =
+    needs : (act : PlainAct) → step.act ≡ act → HasNeeds (told_with seat.pass desk) desk.mount act
+    needs (commit op) is =
         omega (
           arith,
           order.room_at place (step.surface, desk) there,
-          left_now step.surface,
-          changed.room,
-          ap length changed.records,
-          length-append (desk_records desk) changed.more,
-          same_room new.port.spine.room desk.port.spine.room turn.lasts.mark,
+          left_at_least step.surface (map worker_now workers) number (worker_now worker) now_at,
+          one_fewer step.surface op worker.actor.left (left ∙ (λ i. Some (record { surface = step.surface; act = is i }))),
         )
+    needs hold is = tt
+    needs mount is =
+        let base : ℕ = opened.coordinator.base.number in
+        let mounted : number_mounted step.surface worker.actor.answers ≡ base =
+        surface_kept.mounters number own.0 (worker_now worker) own.1.script_at now_at (own_mount script (map worker_now workers) number own.0 (worker_now worker) step rest own.1 step.surface is refl)
+        ∙ ap base_of opened.mounted in
+        let low : base ≤ seat.pass.seen = omega (arith, mounted, seat.mounted) in
+        subst (MayMount (told_with seat.pass desk)) (sym opened.mounted)
+        (subst (λ l. IsBaseOf desk.port.spine.first opened.coordinator.base l) (sym (take-take base seat.pass.seen (desk_records desk) low)) opened.base)
 
-    room_beside : (d : ℕ × PlainDesk) → HasRoomForCommits workers d → HasRoomForCommits (slice_set workers number after) d
-    room_beside d room = omega (arith, room, left_now d.0, stays.left d.0)
-
-    off_id : (other : ℕ) (d : ℕ × PlainDesk) → (other ≡ place → ⊥) → slice_get entries other ≡ Some d → nat_eq step.surface d.0 ≡ false
-    off_id other d off to =
-        two_ids (map surface_now entries) place other (surface_now (step.surface, desk)) (surface_now d) distinct surface_at (slice_get-map surface_now entries other ∙ ap (option_map surface_now) to) off
-
-    -- the actor on its surface
-    seat_here : IsSeated place (step.surface, new) number after
-    seat_here = record {
-      pass = turn.is;
-      at = ap (λ l. slice_get l place) turn.passes ∙ slice_get-set_same worker.passes.items place turn.is seat.pass seat.at;
-      reached = turn.reached;
-      order = turn.order step left;
-      mounted = changed.mounted;
-      mounts = changed.mounts;
-      within = changed.within;
+    -- the event may take place
+    pub may_turn : MayTurn wish place desk worker
+    may_turn = record {
+      pass = seat.pass;
+      at = seat.at;
+      reached = seat.reached;
+      may = record { step = step; left = left; order = seat.order; needs = needs step.act refl };
     }
 
-    -- another actor on the same surface
-    seat_other : (j : ℕ) (w : Worker) → IsSeated place (step.surface, desk) j w → IsSeated place (step.surface, new) j w
-    seat_other j w s =
-        let more : List PlainRecord = changed.more in
-        let low : s.pass.seen ≤ length (desk_records desk) = omega (arith, s.reached, s.pass.seen_is_reached) in
-        let same : take s.pass.seen (desk_records new) ≡ take s.pass.seen (desk_records desk) =
-        ap (take s.pass.seen) changed.records ∙ take-append-le s.pass.seen (desk_records desk) more low in
-        let long : length (desk_records desk) ≤ length (desk_records new) = omega (arith, ap length changed.records, length-append (desk_records desk) more) in
-        let lasts : Lasts (told_with s.pass desk) (told_with s.pass new) = record {
-          mark = turn.lasts.mark;
-          first = turn.lasts.first;
-          seen = record { within = omega (arith, ap length same); same = subst (λ l. take (length (take s.pass.seen (desk_records desk))) l ≡ take s.pass.seen (desk_records desk)) (sym same) (take-length (take s.pass.seen (desk_records desk))) };
-          busy = omega arith;
-          floor = omega arith;
-          reached = omega (arith, length-take s.pass.seen (desk_records new), s.pass.seen_is_reached);
-          looks = omega arith;
-        } in
-        record {
-          pass = s.pass;
-          at = s.at;
-          reached = omega (arith, s.reached, long);
-          order = record {
-            reached = lasts.reached;
-            holding = holding_lasts (told_with s.pass desk) (told_with s.pass new) step.surface w.actor lasts s.order.holding;
-            commit = λ op there commit e.
-                let way : IsUnderWay (told_with s.pass desk) (commit_record step.surface op w.actor) commit = s.order.commit op there commit e in
-                record { entry_is = way.entry_is; ready = ready_later (told_with s.pass desk) (told_with s.pass new) commit lasts same way.ready };
-          };
-          mounted = s.mounted;
-          mounts = s.mounts
-              ∙ sym (mounts-more desk.port.spine.first (desk_records desk) more (passages_by step.surface j w.actor.answers) s.within)
-              ∙ (λ i. map (mount_along (sym turn.lasts.first i) (sym changed.records i)) (passages_by step.surface j w.actor.answers));
-          within = within-more (length (desk_records desk)) (length (desk_records new)) (passages_by step.surface j w.actor.answers) long s.within;
-        }
+    module _ (new : PlainDesk) (after : Worker) (turn : IsTurn wish place desk new worker after) where
+      changed : IsChange wish step.surface number step.act desk new turn.is worker.actor after.actor
+      changed =
+          change wish place step.surface number desk new turn.was turn.is worker after.actor opened (order.numbers number worker at) seat
+          (same_Some seat.pass turn.was (sym seat.at ∙ turn.was_at)) turn.reached turn.lasts step.act left (turn.event step left)
 
-    -- the actor on another surface
-    seat_beside : (other : ℕ) (d : ℕ × PlainDesk) → (other ≡ place → ⊥) → slice_get entries other ≡ Some d → IsSeated other d number worker → IsSeated other d number after
-    unfolding surface_in
-    seat_beside other d off to s =
-        let off_here : nat_eq step.surface d.0 ≡ false = off_id other d off to in
-        let keeps : KeepsElsewhere step.surface worker.actor after.actor = turn.elsewhere step left in
-        let held : number_held d.0 after.actor.answers ≡ number_held d.0 worker.actor.answers = stays.held d.0 off_here in
-        let passages : passages_by d.0 number after.actor.answers ≡ passages_by d.0 number worker.actor.answers = stays.passages d.0 number off_here in
-        record {
-          pass = s.pass;
-          at = ap (λ l. slice_get l other) turn.passes ∙ slice_get-set_other worker.passes.items place other turn.is off ∙ s.at;
-          reached = s.reached;
-          order = record {
-            reached = s.order.reached;
-            holding = record {
-              revision = s.order.holding.revision;
-              held = keeps.held d.0 off_here ∙ s.order.holding.held;
-              within = omega (arith, held, s.order.holding.within);
-              stands = subst (λ n. StandsFor d.1.port.spine.first s.order.holding.revision (take n (take s.pass.seen (desk_records d.1)))) (sym held) s.order.holding.stands;
+      moment_is : moment (surface_now (step.surface, new)) (actor_now after.actor) ≡ after_hooked_event wish number step.act (surface_now (step.surface, desk)) (worker_now worker)
+      moment_is = changed.moment_is ∙ ap (λ number. after_hooked_event wish number step.act (surface_now (step.surface, desk)) (worker_now worker)) (order.numbers number worker at)
+
+      -- the run after it is the machine's
+      pub turned_now : now_of (slice_set entries place (step.surface, new)) (slice_set workers number after) ≡ after_hooked_turn wish (now_of entries workers) number
+      turned_now =
+          let run : RunNow = now_of entries workers in
+          let now : ActorNow = worker_now worker in
+          let found : find (λ surface. nat_eq surface.id step.surface) (map surface_now entries) ≡ Some (surface_now (step.surface, desk)) =
+          find_at (map surface_now entries) place step.surface (surface_now (step.surface, desk)) distinct surface_at refl in
+          let surfaces : map (λ (s : SurfaceNow). cond (nat_eq s.id step.surface) (surface_now (step.surface, new)) s) (map surface_now entries) ≡ map surface_now (slice_set entries place (step.surface, new)) =
+          set_by_id (map surface_now entries) place (surface_now (step.surface, desk)) (surface_now (step.surface, new)) distinct surface_at refl
+          ∙ sym (map-set surface_now entries place (step.surface, new)) in
+          (λ i. record { surfaces = sym surfaces i; actors = map-set worker_now workers number after i })
+          ∙ ap (with_moment run number) moment_is
+          ∙ sym (ap (after_hooked_event_on wish run number now step.act) found)
+          ∙ sym (ap (after_hooked_event_by wish run number now) left_is)
+          ∙ sym (ap (after_hooked_event_of wish run number) now_at)
+
+      stays : StaysElsewhere step.surface (worker_now worker) (worker_now after)
+      stays =
+          subst (StaysElsewhere step.surface (worker_now worker)) (sym (ap (λ (m : Moment). m.actor) moment_is))
+          (event_elsewhere number (surface_now (step.surface, desk)) (worker_now worker) wish step.act)
+
+      numbers : (j : ℕ) (x : Worker) → slice_get (slice_set workers number after) j ≡ Some x → x.actor.number ≡ j
+      numbers =
+          set_cases (λ j (x : Worker). x.actor.number ≡ j) workers number worker after at
+          ((turn.elsewhere step left).number ∙ order.numbers number worker at) (λ j x off to. order.numbers j x to)
+
+      left_now : (id : ℕ) → commits_left id (map worker_now (slice_set workers number after)) + count_by (commits_on id) worker.actor.left
+          ≡ commits_left id (map worker_now workers) + count_by (commits_on id) after.actor.left
+      left_now id =
+          ap (λ l. commits_left id l + count_by (commits_on id) worker.actor.left) (map-set worker_now workers number after)
+          ∙ left_set id (map worker_now workers) number (worker_now worker) (worker_now after) now_at
+
+      room_here : HasRoomForCommits (slice_set workers number after) (step.surface, new)
+      room_here =
+          omega (
+            arith,
+            order.room_at place (step.surface, desk) there,
+            left_now step.surface,
+            changed.room,
+            ap length changed.records,
+            length-append (desk_records desk) changed.more,
+            same_room new.port.spine.room desk.port.spine.room turn.lasts.mark,
+          )
+
+      room_beside : (d : ℕ × PlainDesk) → HasRoomForCommits workers d → HasRoomForCommits (slice_set workers number after) d
+      room_beside d room = omega (arith, room, left_now d.0, stays.left d.0)
+
+      off_id : (other : ℕ) (d : ℕ × PlainDesk) → (other ≡ place → ⊥) → slice_get entries other ≡ Some d → nat_eq step.surface d.0 ≡ false
+      off_id other d off to =
+          two_ids (map surface_now entries) place other (surface_now (step.surface, desk)) (surface_now d) distinct surface_at (slice_get-map surface_now entries other ∙ ap (option_map surface_now) to) off
+
+      -- the actor on its surface
+      seat_here : IsSeated wish place (step.surface, new) number after
+      seat_here = record {
+        pass = turn.is;
+        at = ap (λ l. slice_get l place) turn.passes ∙ slice_get-set_same worker.passes.items place turn.is seat.pass seat.at;
+        reached = turn.reached;
+        order = turn.order step left;
+        mounted = changed.mounted;
+        mounts = changed.mounts;
+        within = changed.within;
+      }
+
+      -- another actor on the same surface
+      seat_other : (j : ℕ) (w : Worker) → IsSeated wish place (step.surface, desk) j w → IsSeated wish place (step.surface, new) j w
+      seat_other j w s =
+          let more : List PlainRecord = changed.more in
+          let low : s.pass.seen ≤ length (desk_records desk) = omega (arith, s.reached, s.pass.seen_is_reached) in
+          let same : take s.pass.seen (desk_records new) ≡ take s.pass.seen (desk_records desk) =
+          ap (take s.pass.seen) changed.records ∙ take-append-le s.pass.seen (desk_records desk) more low in
+          let long : length (desk_records desk) ≤ length (desk_records new) = omega (arith, ap length changed.records, length-append (desk_records desk) more) in
+          let lasts : Lasts (told_with s.pass desk) (told_with s.pass new) = record {
+            mark = turn.lasts.mark;
+            first = turn.lasts.first;
+            seen = record { within = omega (arith, ap length same); same = subst (λ l. take (length (take s.pass.seen (desk_records desk))) l ≡ take s.pass.seen (desk_records desk)) (sym same) (take-length (take s.pass.seen (desk_records desk))) };
+            busy = omega arith;
+            floor = omega arith;
+            reached = omega (arith, length-take s.pass.seen (desk_records new), s.pass.seen_is_reached);
+            looks = omega arith;
+          } in
+          record {
+            pass = s.pass;
+            at = s.at;
+            reached = omega (arith, s.reached, long);
+            order = record {
+              reached = lasts.reached;
+              holding = holding_lasts (told_with s.pass desk) (told_with s.pass new) step.surface w.actor lasts s.order.holding;
+              commit = λ op there commit e.
+                  let way : IsUnderWay wish (told_with s.pass desk) (commit_record step.surface op w.actor) commit = s.order.commit op there commit e in
+                  record { entry_is = way.entry_is; ready = ready_later (told_with s.pass desk) (told_with s.pass new) commit lasts same way.ready };
             };
-            commit = λ op there commit e.
-                let same : slice_get after.actor.left 0 ≡ Some step = ap (λ l. slice_get l 0) (keeps.commit commit e) ∙ left in
-                let surfaces : d.0 ≡ step.surface = ap surface_in (sym there ∙ same) in
-                absurd (eqb-false step.surface d.0 off_here (sym surfaces));
-          };
-          mounted = omega (arith, stays.mounted d.0 off_here, s.mounted);
-          mounts = changed.others d.0 off_here ∙ s.mounts ∙ ap (map (mount_along d.1.port.spine.first (desk_records d.1))) (sym passages);
-          within = subst (AreWithin (length (desk_records d.1))) (sym passages) s.within;
-        }
+            mounted = s.mounted;
+            mounts = s.mounts
+                ∙ sym (mounts-more desk.port.spine.first (desk_records desk) more (passages_by step.surface j w.actor.answers) s.within)
+                ∙ (λ i. map (mount_along (sym turn.lasts.first i) (sym changed.records i)) (passages_by step.surface j w.actor.answers));
+            within = within-more (length (desk_records desk)) (length (desk_records new)) (passages_by step.surface j w.actor.answers) long s.within;
+          }
 
-    -- all is in order again
-    pub turned_order : AreInOrder (slice_set entries place (step.surface, new)) (slice_set workers number after)
-    turned_order = record {
-      numbers = numbers;
-      open_at = set_cases (λ k (d : ℕ × PlainDesk). IsOpen d.1) entries place (step.surface, desk) (step.surface, new) there changed.opened (λ k d off to. order.open_at k d to);
-      room_at = set_cases (λ k d. HasRoomForCommits (slice_set workers number after) d) entries place (step.surface, desk) (step.surface, new) there room_here (λ k d off to. room_beside d (order.room_at k d to));
-      seated = λ k d j w to on. set_cases (λ k d. IsSeated k d j w) entries place (step.surface, desk) (step.surface, new) there
-          (set_cases (λ j w. IsSeated place (step.surface, new) j w) workers number worker after at seat_here (λ j w off on. seat_other j w (order.seated place (step.surface, desk) j w there on)) j w on)
-          (λ k d off to. set_cases (λ j w. IsSeated k d j w) workers number worker after at (seat_beside k d off to (order.seated k d number worker to at)) (λ j w off on. order.seated k d j w to on) j w on)
-          k d to;
-    }
+      -- the actor on another surface
+      seat_beside : (other : ℕ) (d : ℕ × PlainDesk) → (other ≡ place → ⊥) → slice_get entries other ≡ Some d → IsSeated wish other d number worker → IsSeated wish other d number after
+      unfolding surface_in
+      seat_beside other d off to s =
+          let off_here : nat_eq step.surface d.0 ≡ false = off_id other d off to in
+          let keeps : KeepsElsewhere step.surface worker.actor after.actor = turn.elsewhere step left in
+          let held : number_held d.0 after.actor.answers ≡ number_held d.0 worker.actor.answers = stays.held d.0 off_here in
+          let passages : passages_by d.0 number after.actor.answers ≡ passages_by d.0 number worker.actor.answers = stays.passages d.0 number off_here in
+          record {
+            pass = s.pass;
+            at = ap (λ l. slice_get l other) turn.passes ∙ slice_get-set_other worker.passes.items place other turn.is off ∙ s.at;
+            reached = s.reached;
+            order = record {
+              reached = s.order.reached;
+              holding = record {
+                revision = s.order.holding.revision;
+                held = keeps.held d.0 off_here ∙ s.order.holding.held;
+                within = omega (arith, held, s.order.holding.within);
+                stands = subst (λ n. StandsFor d.1.port.spine.first s.order.holding.revision (take n (take s.pass.seen (desk_records d.1)))) (sym held) s.order.holding.stands;
+              };
+              commit = λ op there commit e.
+                  let same : slice_get after.actor.left 0 ≡ Some step = ap (λ l. slice_get l 0) (keeps.commit commit e) ∙ left in
+                  let surfaces : d.0 ≡ step.surface = ap surface_in (sym there ∙ same) in
+                  absurd (eqb-false step.surface d.0 off_here (sym surfaces));
+            };
+            mounted = omega (arith, stays.mounted d.0 off_here, s.mounted);
+            mounts = changed.others d.0 off_here ∙ s.mounts ∙ ap (map (mount_along d.1.port.spine.first (desk_records d.1))) (sym passages);
+            within = subst (AreWithin (length (desk_records d.1))) (sym passages) s.within;
+          }
+
+      -- all is in order again
+      pub turned_order : AreInOrder wish (slice_set entries place (step.surface, new)) (slice_set workers number after)
+      turned_order = record {
+        numbers = numbers;
+        open_at = set_cases (λ k (d : ℕ × PlainDesk). IsOpen d.1) entries place (step.surface, desk) (step.surface, new) there changed.opened (λ k d off to. order.open_at k d to);
+        room_at = set_cases (λ k d. HasRoomForCommits (slice_set workers number after) d) entries place (step.surface, desk) (step.surface, new) there room_here (λ k d off to. room_beside d (order.room_at k d to));
+        seated = λ k d j w to on. set_cases (λ k d. IsSeated wish k d j w) entries place (step.surface, desk) (step.surface, new) there
+            (set_cases (λ j w. IsSeated wish place (step.surface, new) j w) workers number worker after at seat_here (λ j w off on. seat_other j w (order.seated place (step.surface, desk) j w there on)) j w on)
+            (λ k d off to. set_cases (λ j w. IsSeated wish k d j w) workers number worker after at (seat_beside k d off to (order.seated k d number worker to at)) (λ j w off on. order.seated k d j w to on) j w on)
+            k d to;
+      }

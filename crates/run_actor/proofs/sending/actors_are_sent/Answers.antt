@@ -11,7 +11,7 @@ returns c κ =
     let answers = c.answers_are_sent.ensures in
     let mounts = c.mounts_are_sent.ensures in
     let revisions = c.revisions_are_sent.ensures in
-    let commits = c.commits_are_sent.ensures in
+    let commits = c.hooked_commits_are_sent.ensures in
     let parts : IsSend (as_row (inside.the_field κ)) =
     declared_send (inside.the_type κ)
     (search sendable, (search sendable, (search sendable, (search (sendable, crosses) depth 20, (search (sendable, crosses) depth 20, (search (sendable, crosses) depth 20, (search sendable, tt))))))) in
