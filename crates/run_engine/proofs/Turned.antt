@@ -291,7 +291,7 @@ module _ (wish : Wish) where
               holding = holding_lasts (told_with s.pass desk) (told_with s.pass new) step.surface w.actor lasts s.order.holding;
               commit = λ op there commit e.
                   let way : IsUnderWay wish (told_with s.pass desk) (commit_record step.surface op w.actor) commit = s.order.commit op there commit e in
-                  record { entry_is = way.entry_is; ready = ready_later (told_with s.pass desk) (told_with s.pass new) commit lasts same way.ready };
+                  record { entry_is = way.entry_is; ready = ready_later wish (told_with s.pass desk) (told_with s.pass new) commit lasts same way.ready };
             };
             mounted = s.mounted;
             mounts = s.mounts

@@ -1,3 +1,5 @@
 mod Passes
 mod Committing
+mod Leading
 mod Mounting
+mod Trying

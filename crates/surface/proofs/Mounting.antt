@@ -9,16 +9,18 @@ use Rattle.mount_coordinator.specs.Mounted.{PlainCoordinator}
 use Rattle.mount_coordinator.specs.Answers.{IsPullAnswer, IsTransaction, IsNothingNewer}
 use Rattle.surface.specs.declared.parts.Mounter.{Mounter}
 use Rattle.surface.specs.Passing.{PassGoesOn}
-use Rattle.surface.specs.Mounting.{IsMountAnswer}
+use Rattle.surface.specs.Mounting.{IsMountAnswer, LeadsRegistry}
 
 module _ (start before after : Mounter) (at : ℕ)
     (same : before.coordinator ≡ start.coordinator) (goes_on : PassGoesOn before.surface.pass after.surface.pass) where
   pub mounted_by : (transaction : Transaction)
       → IsPullAnswer (spine_told before.surface.pass) (spine_told after.surface.pass) before.coordinator after.coordinator (Ok (PulledTransaction transaction))
-      → IsMountAnswer start after (Ok (Some transaction))
-  mounted_by transaction pulled =
-      subst (λ (c : PlainCoordinator). IsTransaction after.surface.pass.kept.mark.first after.surface.pass.kept.seen c after.coordinator transaction) same
-      (subst (λ (first : Size). IsTransaction first after.surface.pass.kept.seen before.coordinator after.coordinator transaction) (sym goes_on.lasts.first) pulled.1)
+      → LeadsRegistry before.coordinator after.coordinator transaction → IsMountAnswer start after (Ok (Some transaction))
+  mounted_by transaction pulled leads = (
+    subst (λ (c : PlainCoordinator). IsTransaction after.surface.pass.kept.mark.first after.surface.pass.kept.seen c after.coordinator transaction) same
+        (subst (λ (first : Size). IsTransaction first after.surface.pass.kept.seen before.coordinator after.coordinator transaction) (sym goes_on.lasts.first) pulled.1),
+    subst (λ (c : PlainCoordinator). LeadsRegistry c after.coordinator transaction) same leads,
+  )
 
   pub empty_by :
       IsPullAnswer (spine_told before.surface.pass) (spine_told after.surface.pass) before.coordinator after.coordinator (Ok (Empty at))

@@ -1,9 +1,10 @@
 -- What a commit by a handle answers, and what stands while it is under way.
-use Rattle.std.specs.Prelude.{◌≡◌, ℕ, ◌+◌, ◌-◌, ◌^◌, ◌≤◌, List, [], ◌∷◌, ◌++◌, length, min, Option, Some, None, Result, Ok, Err}
+use Rattle.std.specs.Prelude.{◌≡◌, ℕ, ◌+◌, ◌-◌, ◌*◌, ◌^◌, ◌≤◌, ◌<◌, List, [], ◌∷◌, ◌++◌, length, min, Option, Some, None, Result, Ok, Err}
 use Rattle.std.specs.declared.alloc.AllocError.{AllocError}
-use Rattle.counts.specs.Raised.{raised}
+use Rattle.counts.specs.Raised.{raised, HasRisen}
 use Rattle.tree_revision.specs.Records.{PlainOp, PlainRecord}
 use Rattle.tree_revision.specs.Cancels.{cancel_of}
+use Rattle.tree_revision.specs.Wishes.{as_written}
 use Rattle.tree_revision.specs.Ports.{BeginsWith, IsLookRefusal}
 use Rattle.tree_revision.specs.Stands.{StandsFor}
 use Rattle.tree_revision.specs.declared.port.LookRefusal.{LookRefusal}
@@ -11,11 +12,13 @@ use Rattle.tree_revision.specs.declared.record.Cancel.{Cancel}
 use Rattle.tree_revision.specs.declared.record.Answer.{Answer}
 use Rattle.tree_revision.specs.declared.record.Answer.TheVariants.{Held, Admitted as AnsweredAdmitted, Cancelled as AnsweredCancelled, Mounted, Empty}
 use Rattle.commit_spine.specs.SpinePorts.{spine_told}
-use Rattle.commit_core.specs.Commit.{PlainCommit, entry_under_way}
+use Rattle.commit_core.specs.Commit.{PlainCommit, entry_under_way, looked_at}
 use Rattle.commit_core.specs.Events.{IsReadyFor}
 use Rattle.surface.specs.declared.parts.Handle.{Handle}
 use Rattle.surface.specs.declared.handle.Committed.{Committed}
 use Rattle.surface.specs.declared.handle.Committed.TheVariants.{Admitted, Cancelled}
+use Rattle.surface.specs.declared.handle.CommitRefusal.{CommitRefusal}
+use Rattle.surface.specs.declared.handle.CommitRefusal.TheVariants.{TooLate, Busy, Memory}
 use Rattle.surface.specs.Passing.{PassGoesOn}
 
 -- the record that a commit of that change adds
@@ -101,6 +104,45 @@ IsHoldAnswer old new (Ok at) = IsHold old new at
 IsHoldAnswer old new (Err refusal) =
     IsCommitInVain old new × IsLookRefusal (spine_told old.surface.pass) (spine_told new.surface.pass) refusal
 
+-- the answer of a hold that waits for its turn; without memory the handle holds what it held
+abbrev pub IsWaitedHoldAnswer : (old new : Handle) → Result ℕ AllocError → Type 0
+IsWaitedHoldAnswer old new (Ok at) = IsHold old new at
+IsWaitedHoldAnswer old new (Err refusal) = IsCommitInVain old new
+
+-- more records were reached than a handle has seen
+abbrev pub IsBehind : Handle → Type 0
+IsBehind handle = length handle.surface.pass.kept.seen < handle.surface.pass.kept.floor
+
+-- the turn was found taken once more: that count rose, or stands at its last value
+abbrev pub FoundBusy : (old new : Handle) → Type 0
+FoundBusy old new = HasRisen old.surface.pass.kept.busy new.surface.pass.kept.busy
+
+-- a commit came too late after all the looks that it might take: they were answered, and if there was one, another record
+-- came after what is seen
+pub record IsTooLate (tries : ℕ) (old new : Handle) : Type 0 where
+  pub looks : new.surface.pass.kept.looks ≡ raised old.surface.pass.kept.looks tries
+  pub behind : 0 < tries → IsBehind new
+
+-- a handle's answered looks are at most so many more
+abbrev pub LooksAtMost : (tries : ℕ) → (old new : Handle) → Type 0
+LooksAtMost tries old new = new.surface.pass.kept.looks ≤ raised old.surface.pass.kept.looks tries
+
+-- when a commit that takes so many looks at most, and waits for nobody, is refused so
+abbrev pub IsTryRefusal : (tries : ℕ) → (old new : Handle) → CommitRefusal → Type 0
+IsTryRefusal tries old new TooLate = IsTooLate tries old new
+IsTryRefusal tries old new Busy = FoundBusy old new
+IsTryRefusal tries old new Memory = Unit {0}
+
+-- the tries of a commit that has ended
+abbrev pub tries_of : Committed → ℕ
+tries_of (Admitted number tries) = tries
+tries_of (Cancelled at tries cause) = tries
+
+-- the answer of a commit that takes so many looks at most, and waits for nobody
+abbrev pub IsTryAnswer : (tries : ℕ) → (old new : Handle) → PlainRecord → Result Committed CommitRefusal → Type 0
+IsTryAnswer tries old new entry (Ok committed) = HasCommitted old new entry committed × (tries_of committed ≤ tries)
+IsTryAnswer tries old new entry (Err refusal) = IsCommitInVain old new × LooksAtMost tries old new × IsTryRefusal tries old new refusal
+
 -- a commit of that record is under way at a handle, since it was another: no record was added so far, and each try was a
 -- look that was answered
 pub record IsCommitting (start now : Handle) (entry : PlainRecord) (commit : PlainCommit) : Type 0 where
@@ -108,7 +150,69 @@ pub record IsCommitting (start now : Handle) (entry : PlainRecord) (commit : Pla
   pub in_vain : IsCommitInVain start now
   pub looks : now.surface.pass.kept.looks ≡ raised start.surface.pass.kept.looks commit.tries
   pub entry_is : entry_under_way commit ≡ Some entry
-  pub ready : IsReadyFor (spine_told now.surface.pass) commit
+  pub ready : IsReadyFor as_written (spine_told now.surface.pass) commit
+
+-- how many looks a commit has taken after its next event, where that is answered: an offer is none
+abbrev pub tries_with : Option ℕ → ℕ → ℕ
+tries_with None tries = tries + 1
+tries_with (Some at) tries = tries
+
+abbrev pub tries_next : PlainCommit → ℕ
+tries_next commit = tries_with (looked_at commit) commit.tries
+
+-- a commit of that record is to be offered, after a look
+pub record IsToOffer (start now : Handle) (entry : PlainRecord) (before commit : PlainCommit) : Type 0 where
+  pub under : IsCommitting start now entry commit
+  pub looked : looked_at before ≡ None
+  pub at : ℕ
+  pub looks_at : looked_at commit ≡ Some at
+  pub tries_are : commit.tries ≡ before.tries + 1
+
+-- a commit of that record is to look again, after an offer that came too late
+pub record IsToLookAgain (start now : Handle) (entry : PlainRecord) (before commit : PlainCommit) : Type 0 where
+  pub under : IsCommitting start now entry commit
+  pub at : ℕ
+  pub looked : looked_at before ≡ Some at
+  pub looks_again : looked_at commit ≡ None
+  pub tries_are : commit.tries ≡ before.tries
+  pub behind : IsBehind now
+
+-- a commit of that record has ended, after so many tries
+pub record IsEnded (start now : Handle) (entry : PlainRecord) (committed : Committed) (tries : ℕ) : Type 0 where
+  pub goes_on : PassGoesOn start.surface.pass now.surface.pass
+  pub committed_is : HasCommitted start now entry committed
+  pub tries_are : tries_of committed ≡ tries
+
+-- a commit of that record found the turn taken, and is under way as before
+pub record IsStillUnderWay (start now : Handle) (entry : PlainRecord) (before commit : PlainCommit) : Type 0 where
+  pub under : IsCommitting start now entry commit
+  pub same : commit ≡ before
+  pub busy : FoundBusy start now
+
+-- there was no memory for an event of a commit, which has taken at most so many looks
+pub record IsWithoutMemory (start now : Handle) (tries : ℕ) : Type 0 where
+  pub goes_on : PassGoesOn start.surface.pass now.surface.pass
+  pub in_vain : IsCommitInVain start now
+  pub looks : LooksAtMost tries start now
+
+-- what one event of a commit answers: it has ended, or it is to be offered, or it is refused
+abbrev pub IsStep : (start now : Handle) → PlainRecord → (before commit : PlainCommit) → Result (Option Committed) CommitRefusal → Type 0
+IsStep start now entry before commit (Ok (Some committed)) = IsEnded start now entry committed (tries_next before)
+IsStep start now entry before commit (Ok None) = IsToOffer start now entry before commit
+IsStep start now entry before commit (Err TooLate) = IsToLookAgain start now entry before commit
+IsStep start now entry before commit (Err Busy) = IsStillUnderWay start now entry before commit
+IsStep start now entry before commit (Err Memory) = IsWithoutMemory start now (tries_next before)
+
+-- how many offers are to come for the looks so far: one after a look, and none before it
+abbrev pub offers_to_come : Option ℕ → ℕ
+offers_to_come None = 0
+offers_to_come (Some at) = 1
+
+-- a commit of that record is under way after so many events, looks and offers by turns, of which each offer came too late
+pub record IsAfterEvents (start now : Handle) (entry : PlainRecord) (commit : PlainCommit) (events : ℕ) : Type 0 where
+  pub under : IsCommitting start now entry commit
+  pub by_turns : 2 * commit.tries ≡ events + offers_to_come (looked_at commit)
+  pub behind : looked_at commit ≡ None → 0 < events → IsBehind now
 
 -- what one event of a commit answers: it has ended, or it goes on
 abbrev pub IsCommittedOrOn : (start now : Handle) → PlainRecord → PlainCommit → Result (Option Committed) AllocError → Type 0

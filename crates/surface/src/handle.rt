@@ -5,12 +5,13 @@ ghost use Rattle.shadow_node.specs.InRange.{IsTagInRange};
 ghost use Rattle.tree_revision.specs.InRange.{IsOpInRange};
 ghost use Rattle.tree_revision.specs.Records.{PlainRecord, plain_op, state as state_of};
 ghost use Rattle.tree_revision.specs.Stands.{StandsFor};
+ghost use Rattle.tree_revision.specs.Wishes.{as_written};
 ghost use Rattle.commit_core.specs.Commit.{entry_under_way};
 ghost use Rattle.commit_core.specs.Events.{IsReadyFor};
 ghost use Rattle.commit_spine.specs.SpinePorts.{spine_told};
 ghost use Rattle.surface.specs.declared.parts.Handle.{Handle as HandleValue};
 ghost use Rattle.surface.specs.Passing.{PassGoesOn};
-ghost use Rattle.surface.specs.Committing.{IsCommitAnswer, IsCommittedOrOn, IsAtNextCall, IsCommitting, IsHoldAnswer, committed_of, record_by};
+ghost use Rattle.surface.specs.Committing.{IsAfterEvents, IsAtNextCall, IsCommitAnswer, IsCommittedOrOn, IsCommitting, IsHoldAnswer, IsStep, IsTryAnswer, IsWaitedHoldAnswer, committed_of, record_by};
 
 use crate::parts::{Handle, Surface};
 use commit_core::{Committer, Progress};
@@ -22,6 +23,9 @@ use std::thread;
 use std::thread::Threads;
 use tree_revision::{Answer, Cancel, LookRefusal, Op, Port, Record, Revision};
 
+/// How many events a try has: a look, and an offer.
+const EVENTS_A_TRY: u64 = 2;
+
 /// How a commit ended, after so many tries. A try is a look that was answered.
 #[derive(Clone, Copy, Debug, PartialEq, Eq)]
 pub enum Committed {
@@ -29,6 +33,17 @@ pub enum Committed {
     Admitted { number: u64, tries: u64 },
     /// There was that cause at the revision of that number.
     Cancelled { at: u64, tries: u64, cause: Cancel },
+}
+
+/// Why a commit that waits for nobody did not come about.
+#[derive(Clone, Copy, Debug, PartialEq, Eq)]
+pub enum CommitRefusal {
+    /// After each look another thread committed first, and it may look no more.
+    TooLate,
+    /// Another holder has the turn.
+    Busy,
+    /// There is no memory.
+    Memory,
 }
 
 impl Handle {
@@ -67,6 +82,55 @@ impl Handle {
         let mut made = Made::start(rt);
         let mut commit = self.begin(op)?;
         self.finish(rt, alloc, &mut made, &mut commit)
+    }
+
+    /// Commits a change as `commit` does, with at most so many looks, and waits for nobody.
+    ///
+    /// It is refused where another holder has the turn, where another thread committed after each of
+    /// these looks, and without memory. No record is added then, and the handle holds what it held
+    /// and is at the same call.
+    pub fn try_commit<R: Threads>(
+        &mut self,
+        rt: &R,
+        alloc: Global,
+        op: Arc<Op>,
+        tries: u32,
+    ) -> Result<Committed, CommitRefusal>
+        requires op { IsOpInRange (plain_op op.value) }
+        requires permit { 1 ≤ self.old.surface.pass.kept.permits }
+        ensures goes_on { PassGoesOn self.old.surface.pass self.new.surface.pass }
+        ensures answer { IsTryAnswer tries self.old self.new (record_by self.old (plain_op op.value)) result }
+    {
+        let mut made = Made::start(rt);
+        let Ok(mut commit) = self.begin(op) else {
+            return Err(CommitRefusal::Memory);
+        };
+        self.go_on(alloc, &mut made, &mut commit, tries)
+    }
+
+    /// Takes a commit that has not looked yet on, with at most so many looks.
+    fn go_on(
+        &mut self,
+        alloc: Global,
+        made: &mut Made,
+        commit: &mut Committer,
+        tries: u32,
+    ) -> Result<Committed, CommitRefusal>
+        requires under { (entry : PlainRecord) × IsAfterEvents self.old self.old entry commit.old 0 }
+        requires permit { 1 ≤ self.old.surface.pass.kept.permits }
+        ensures goes_on { PassGoesOn self.old.surface.pass self.new.surface.pass }
+        ensures answer { (entry : PlainRecord) → entry_under_way commit.old ≡ Some entry → IsTryAnswer tries self.old self.new entry result }
+    {
+        for event in 0..EVENTS_A_TRY * u64::from(tries) {
+            match self.step(alloc, made, commit) {
+                Ok(Some(committed)) => return Ok(committed),
+                Ok(None) => {}
+                Err(CommitRefusal::TooLate) => {}
+                Err(CommitRefusal::Busy) => return Err(CommitRefusal::Busy),
+                Err(CommitRefusal::Memory) => return Err(CommitRefusal::Memory),
+            }
+        }
+        Err(CommitRefusal::TooLate)
     }
 
     /// Takes a commit under way to its end.
@@ -123,11 +187,33 @@ impl Handle {
         Ok(at)
     }
 
+    /// Holds the newest revision, once no other holder has the turn; it answers its number.
+    pub fn hold<R: Wait>(&mut self, rt: &R) -> Result<u64, AllocError>
+        ensures goes_on { PassGoesOn self.old.surface.pass self.new.surface.pass }
+        ensures answer { IsWaitedHoldAnswer self.old self.new result }
+    {
+        for _ in rt.forever() {
+            match self.try_hold() {
+                Ok(at) => return Ok(at),
+                Err(LookRefusal::Busy) => thread::yield_now(),
+                Err(LookRefusal::Memory) => return Err(AllocError),
+            }
+        }
+        unreachable!()
+    }
+
     /// The revision that it holds.
     pub fn held(&self) -> &Revision
         ensures { result.now ≡ self.now.held }
     {
         &self.held
+    }
+
+    /// How many commits of it may still be admitted.
+    pub fn permits(&self) -> u64
+        ensures { result ≡ self.now.surface.pass.kept.permits }
+    {
+        self.surface.permits()
     }
 
     /// Its way to the surface, which may be joined with another.
@@ -141,7 +227,8 @@ impl Handle {
     /// The commit of its next call, before the first look.
     fn begin(&self, op: Arc<Op>) -> Result<Committer, AllocError>
         requires { IsOpInRange (plain_op op.value) }
-        ensures { IfOk result (IsCommitting self.now self.now (record_by self.now (plain_op op.value))) }
+        ensures under { IfOk result (IsCommitting self.now self.now (record_by self.now (plain_op op.value))) }
+        ensures begun { IfOk result (λ commit. IsAfterEvents self.now self.now (record_by self.now (plain_op op.value)) commit 0) }
     {
         let entry = Record {
             actor: self.actor,
@@ -160,22 +247,43 @@ impl Handle {
         made: &mut Made,
         commit: &mut Committer,
     ) -> Result<Option<Committed>, AllocError>
-        requires ready { IsReadyFor (spine_told self.old.surface.pass) commit.old }
+        requires ready { IsReadyFor as_written (spine_told self.old.surface.pass) commit.old }
         requires permit { 1 ≤ self.old.surface.pass.kept.permits }
         ensures { (start : HandleValue) (entry : PlainRecord) → IsCommitting start self.old entry commit.old
             → IsCommittedOrOn start self.new entry commit.new result }
     {
+        match self.step(alloc, made, commit) {
+            Ok(ended) => Ok(ended),
+            Err(CommitRefusal::TooLate) => {
+                thread::yield_now();
+                Ok(None)
+            }
+            Err(CommitRefusal::Busy) => {
+                thread::yield_now();
+                Ok(None)
+            }
+            Err(CommitRefusal::Memory) => Err(AllocError),
+        }
+    }
+
+    /// One event of a commit under way: how it ended, or `None` where it has looked. Where it came
+    /// too late, it is to look again.
+    fn step(
+        &mut self,
+        alloc: Global,
+        made: &mut Made,
+        commit: &mut Committer,
+    ) -> Result<Option<Committed>, CommitRefusal>
+        requires ready { IsReadyFor as_written (spine_told self.old.surface.pass) commit.old }
+        requires permit { 1 ≤ self.old.surface.pass.kept.permits }
+        ensures { (start : HandleValue) (entry : PlainRecord) → IsCommitting start self.old entry commit.old
+            → IsStep start self.new entry commit.old commit.new result }
+    {
         match commit.turn(alloc, made, &mut self.surface) {
             Progress::Looked { .. } => Ok(None),
-            Progress::Again { .. } => {
-                thread::yield_now();
-                Ok(None)
-            }
-            Progress::Busy => {
-                thread::yield_now();
-                Ok(None)
-            }
-            Progress::Memory => Err(AllocError),
+            Progress::Again { .. } => Err(CommitRefusal::TooLate),
+            Progress::Busy => Err(CommitRefusal::Busy),
+            Progress::Memory => Err(CommitRefusal::Memory),
             Progress::Done { answer, now } => {
                 self.end_call(now);
                 Ok(Some(ended_by(answer)))

@@ -10,6 +10,6 @@ mod shared;
 #[cfg(test)]
 mod tests;
 
-pub use handle::Committed;
+pub use handle::{CommitRefusal, Committed};
 pub use parts::{Handle, Mounter, Surface};
 pub use sending::{handles_are_sent, mounters_are_sent, surfaces_are_sent};

@@ -8,7 +8,7 @@ ghost use Rattle.mount_coordinator.specs.Answers.{IsPullAnswer};
 ghost use Rattle.mount_coordinator.specs.Mounted.{host_tree_at};
 ghost use Rattle.commit_spine.specs.SpinePorts.{spine_told};
 ghost use Rattle.surface.specs.Passing.{PassGoesOn};
-ghost use Rattle.surface.specs.Mounting.{IsMountAnswer};
+ghost use Rattle.surface.specs.Mounting.{IsMountAnswer, PullLeadsRegistry};
 
 use crate::parts::{Mounter, Surface};
 use host_views::Registry;
@@ -40,6 +40,7 @@ impl Mounter {
     pub fn try_mount(&mut self, alloc: Global) -> Result<Pulled, AllocError>
         ensures goes_on { PassGoesOn self.old.surface.pass self.new.surface.pass }
         ensures answer { IsPullAnswer (spine_told self.old.surface.pass) (spine_told self.new.surface.pass) self.old.coordinator self.new.coordinator result }
+        ensures leads { IfOk result (PullLeadsRegistry self.old.coordinator self.new.coordinator) }
     {
         self.coordinator.pull(alloc, &mut self.surface)
     }

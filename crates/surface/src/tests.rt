@@ -5,7 +5,7 @@ ghost use Rattle.tree_revision.specs.InRange.{IsOpInRange};
 ghost use Rattle.tree_revision.specs.Records.{plain_op};
 ghost use Rattle.surface.specs.Passing.{PassGoesOn};
 
-use crate::{Committed, Handle, Mounter, Surface};
+use crate::{CommitRefusal, Committed, Handle, Mounter, Surface};
 use shadow_frame::Size;
 use std::alloc::Global;
 use std::process::Abort;
@@ -74,4 +74,33 @@ fn two_handles_commit_and_one_thread_mounts(rt: HostRuntime) {
         panic!(rt; "the last owner");
     };
     assert_eq!(rt; store.records.len(), 2);
+}
+
+#[test]
+fn a_third_handle_holds_and_tries(rt: HostRuntime) {
+    let alloc = rt.alloc();
+    let (mut owner, first) = Surface::open(alloc, SIZE, 4, 3).expect(&rt, "memory");
+    let one = owner.split(2).expect(&rt, "memory");
+    let third = owner.split(2).expect(&rt, "memory");
+    let mut one = Handle::start(one, 0, first.share().expect(&rt, "memory"));
+    let mut third = Handle::start(third, 2, first);
+    let _ = commit(&rt, alloc, &mut one, Op::Stop);
+    let op = Arc::new(alloc, Op::Stop).expect(&rt, "memory");
+    assert_eq!(rt;
+        third.try_commit(&rt, alloc, op, 0),
+        Err(CommitRefusal::TooLate)
+    );
+    assert_eq!(rt; third.held().number(), 0);
+    assert_eq!(rt; third.hold(&rt), Ok(1));
+    assert_eq!(rt; third.held().number(), 1);
+    let op = Arc::new(alloc, Op::Stop).expect(&rt, "memory");
+    assert_eq!(rt;
+        third.try_commit(&rt, alloc, op, 1),
+        Ok(Committed::Admitted {
+            number: 2,
+            tries: 1
+        })
+    );
+    assert_eq!(rt; third.held().number(), 2);
+    assert_eq!(rt; one.hold(&rt), Ok(2));
 }
