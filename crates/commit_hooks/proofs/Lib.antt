@@ -1,0 +1,4 @@
+pub mod Named
+pub mod Last
+pub mod Sizes
+pub mod Changes
