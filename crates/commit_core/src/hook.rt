@@ -13,6 +13,8 @@ use tree_revision::{Op, Revision};
 pub trait Hook: Drop {
     ghost wish: { Self → Wish };
 
+    ghost keeps_range: { (hook : Self) → KeepsRange (wish hook) };
+
     /// What is wished in place of a change, at a look that found that front, by a caller that holds
     /// that revision. Where the change itself is wished, the answer is `None`. Whatever front and
     /// held revision it is asked with, what it answers is in range.
@@ -26,8 +28,6 @@ pub trait Hook: Drop {
         requires in_range { IsOpInRange (plain_op op.now) }
         ensures adjusted { IfOk result (IsAdjustedBy (wish self.now) front.now held.now (plain_op op.now)) }
         ensures in_range { IfOk result (λ answer. IfSome answer (λ changed. IsOpInRange (plain_op changed))) };
-
-    ghost keeps_range: { (hook : Self) → KeepsRange (wish hook) };
 }
 
 /// The hook that wishes each change as it was written.

@@ -2,3 +2,5 @@ pub mod Named
 pub mod Last
 pub mod Sizes
 pub mod Changes
+pub mod Alike
+pub mod Turns

@@ -2,7 +2,10 @@
 #![tactic(auto)]
 
 mod copies;
+mod list;
 mod losses;
 mod pin;
+mod same;
 
+pub use list::HookList;
 pub use pin::Pin;
