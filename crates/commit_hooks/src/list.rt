@@ -21,7 +21,7 @@ pub struct HookList {
 impl HookList {
     /// The hooks in their order.
     pub fn of(hooks: Vec<Box<dyn Hook>>) -> HookList
-        ensures { result.hooks ≡ hooks }
+        ensures { ⟦<HookList as Hook>⟧.wish result ≡ wishes_in_turn (map wish hooks.items) }
     {
         HookList { hooks }
     }
