@@ -6,6 +6,8 @@ mod list;
 mod losses;
 mod pin;
 mod same;
+#[cfg(test)]
+mod tests;
 
 pub use list::HookList;
 pub use pin::Pin;
