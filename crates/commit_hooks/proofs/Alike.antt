@@ -1,6 +1,6 @@
 -- When script nodes are the same.
-use Rattle.std.proofs.Common.{◌≡◌, ◌≢◌, ℕ, zero, suc, ◌+◌, ◌<◌, ◌≤◌, Bool, true, false, List, [], ◌∷◌, length, drop, refl, ap, sym, ◌∙◌, arith}
-use Rattle.std.specs.Prelude.{Option, Some, None, IsTrue, ◌↔◌, slice_index_or}
+use Rattle.std.proofs.Common.{◌≡◌, ℕ, suc, ◌+◌, ◌<◌, List, [], ◌∷◌, length, refl, ap, sym, ◌∙◌, arith}
+use Rattle.std.specs.Prelude.{Option, Some, None, ◌↔◌}
 use Rattle.shadow_node.specs.declared.NodeEdit.{NodeEdit}
 use Rattle.shadow_node.specs.Fields.{NodeFields}
 use Rattle.prop_table.specs.Edits.{EditList, named_at}

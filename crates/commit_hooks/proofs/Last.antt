@@ -1,6 +1,6 @@
 -- Script nodes with one more kept behind them.
 use Rattle.std.proofs.Common.{◌≡◌, ◌≢◌, ℕ, ◌+◌, List, [], ◌∷◌, ◌++◌, refl, ap, sym, ◌∙◌, arith}
-use Rattle.std.specs.Prelude.{Option, Some, None}
+use Rattle.std.specs.Prelude.{Some, None}
 use Rattle.tree_build.specs.declared.ScriptNode.{ScriptNode, fold_out-ScriptNode}
 use Rattle.tree_build.specs.declared.ScriptNode.TheOpen.{ScriptNode-F, Written, Kept}
 use Rattle.tree_build.specs.declared.ScriptNode.TheViews as view

@@ -1,9 +1,9 @@
 -- Whether a tag is in the forest that script nodes name.
-use Rattle.std.proofs.Common.{◌≡◌, ℕ, Bool, true, false, refl, ◌∙◌, ap, sym}
+use Rattle.std.proofs.Common.{◌≡◌, ℕ, Bool, true, false, refl, ◌∙◌, ap}
 use Rattle.std.specs.Prelude.{Option, Some, None, is_some, nat_eq, ◌||◌, if◌then◌else◌}
-use Rattle.std.specs.Option.{option_or, option_map}
+use Rattle.std.specs.Option.{option_or}
 use Rattle.shadow_node.specs.declared.NodeEdit.{NodeEdit}
-use Rattle.shadow_node.specs.Forest.{PlainForest, none, node, PlainNode}
+use Rattle.shadow_node.specs.Forest.{PlainForest, node, PlainNode}
 use Rattle.shadow_node.specs.Fields.{NodeFields}
 use Rattle.shadow_node.specs.Find.{first_with}
 use Rattle.tree_build.specs.Script.{ScriptForest, written, kept, kept_with}

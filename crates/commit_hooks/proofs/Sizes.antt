@@ -3,11 +3,10 @@ use Rattle.std.proofs.Common.{◌≡◌, ℕ, zero, suc, List, [], ◌∷◌, �
 use Rattle.std.specs.Prelude.{slice_get, unwrap_or, pos, map, take}
 use Rattle.std.specs.List.{fold}
 use Rattle.shadow_frame.specs.declared.Size.{Size}
-use Rattle.shadow_node.specs.Forest.{PlainForest}
-use Rattle.shadow_node.specs.Fields.{NodeFields, contents_of}
+use Rattle.shadow_node.specs.Fields.{contents_of}
 use Rattle.tree_build.specs.Resolved.{resolved}
 use Rattle.tree_revision.specs.Records.{PlainRecord, PlainOp, complete, state, props, resize, stop, suspend, resume}
-use Rattle.tree_revision.specs.Revisions.{PlainRevision, PlainRevisions, opening, edited_at, revision_after, revision_numbered, one_more_revision, revisions_of, revision_of}
+use Rattle.tree_revision.specs.Revisions.{PlainRevision, PlainRevisions, opening, edited_at, revision_after, revision_numbered, one_more_revision, revision_of}
 use Rattle.tree_revision.specs.Settled.{KeptRevision}
 use Rattle.tree_revision.specs.Stands.{StandsFor}
 use Rattle.tree_revision.proofs.Contents.{contents_of-stands}

@@ -6,7 +6,7 @@ use Rattle.tree_revision.specs.Records.{PlainOp, PlainRecord, plain_op}
 use Rattle.tree_revision.specs.Settled.{KeptRevision}
 use Rattle.tree_revision.specs.Wishes.{Wish}
 use Rattle.commit_core.specs.Hooks.{IsChangedTo, IsAdjustedBy, IsWishedOf}
-use Rattle.commit_hooks.specs.InTurn.{wishes_in_turn, asked_op}
+use Rattle.commit_hooks.specs.InTurn.{wishes_in_turn}
 
 -- an answer in place of a change is what is wished of it
 pub changed_is_wished : (wish : Wish) (front held : KeptRevision) (op current : PlainOp) (changed : Op) → current ≡ op

@@ -1,8 +1,7 @@
 -- Several wishes as one.
-use Rattle.std.specs.Prelude.{ℕ, List, [], ◌∷◌, map, Option, Some, None}
+use Rattle.std.specs.Prelude.{List, [], ◌∷◌, map, Option, Some, None}
 use Rattle.tree_revision.specs.declared.record.Op.{Op}
-use Rattle.tree_revision.specs.Records.{PlainOp, PlainRecord, plain_op}
-use Rattle.tree_revision.specs.InRange.{IsOpInRange}
+use Rattle.tree_revision.specs.Records.{PlainOp, plain_op}
 use Rattle.tree_revision.specs.Wishes.{Wish, KeepsRange}
 
 -- wishes one after the other: each is asked of what the ones before it wish

@@ -1,4 +1,4 @@
-use Rattle.std.proofs.Common.{subst, ◌≡◌}
+use Rattle.std.proofs.Common.{subst}
 use Rattle.tree_revision.specs.Records.{plain_op}
 use Rattle.commit_core.specs.Hooks.{IsAdjustedBy}
 use Rattle.commit_hooks.proofs.Turns.{changed_is_wished, kept_is_wished}

@@ -1,8 +1,7 @@
-use Rattle.std.proofs.Common.{rules, ◌≡◌, true, subst, sym}
+use Rattle.std.proofs.Common.{rules, ◌≡◌, true}
 use Rattle.shadow_node.specs.Fields.{contents_of}
 use Rattle.tree_build.specs.Script.{script_forest}
-use Rattle.tree_revision.specs.Records.{plain_op, complete}
-use Rattle.commit_hooks.specs.Pinned.{is_lost, keeping_last, pinned_over}
+use Rattle.commit_hooks.specs.Pinned.{is_lost, keeping_last}
 use Rattle.commit_hooks.proofs.Changes.{lost_changed, lost_stays_in_range}
 use Rattle.commit_hooks.proofs.pin.adjusted.Goals as goal
 

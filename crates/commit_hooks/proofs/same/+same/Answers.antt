@@ -1,4 +1,4 @@
-use Rattle.std.proofs.Common.{rules, ◌≡◌, length, arith}
+use Rattle.std.proofs.Common.{◌≡◌, length, arith}
 use Rattle.commit_hooks.proofs.Alike.{same_length}
 use Rattle.commit_hooks.proofs.same.+same.Goals as goal
 

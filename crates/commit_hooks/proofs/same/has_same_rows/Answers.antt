@@ -1,5 +1,4 @@
-use Rattle.std.proofs.Common.{rules, refl, ◌≡◌, ◌<◌, ◌∙◌, sym, length, ℕ, arith}
-use Rattle.prop_table.specs.Edits.{named_at}
+use Rattle.std.proofs.Common.{rules, refl, ◌∙◌, sym}
 use Rattle.commit_hooks.proofs.Alike.{same_rows}
 use Rattle.commit_hooks.proofs.same.has_same_rows.Goals as goal
 
