@@ -1,6 +1,6 @@
 //! What may change a commit at its look.
 
-ghost use Rattle.std.specs.Prelude.{IfOk};
+ghost use Rattle.std.specs.Prelude.{IfOk, IfSome};
 ghost use Rattle.tree_revision.specs.InRange.{IsOpInRange};
 ghost use Rattle.tree_revision.specs.Records.{plain_op};
 ghost use Rattle.tree_revision.specs.Wishes.{Wish, KeepsRange, as_written};
@@ -13,8 +13,11 @@ use tree_revision::{Op, Revision};
 pub trait Hook: Drop {
     ghost wish: { Self → Wish };
 
+    ghost keeps_range: { (hook : Self) → KeepsRange (wish hook) };
+
     /// What is wished in place of a change, at a look that found that front, by a caller that holds
-    /// that revision. Where the change itself is wished, the answer is `None`.
+    /// that revision. Where the change itself is wished, the answer is `None`. Whatever front and
+    /// held revision it is asked with, what it answers is in range.
     fn adjust(
         &self,
         alloc: Global,
@@ -23,9 +26,8 @@ pub trait Hook: Drop {
         op: &Op,
     ) -> Result<Option<Op>, AllocError>
         requires in_range { IsOpInRange (plain_op op.now) }
-        ensures { IfOk result (IsAdjustedBy (wish self.now) front.now held.now (plain_op op.now)) };
-
-    ghost keeps_range: { (hook : Self) → KeepsRange (wish hook) };
+        ensures adjusted { IfOk result (IsAdjustedBy (wish self.now) front.now held.now (plain_op op.now)) }
+        ensures in_range { IfOk result (λ answer. IfSome answer (λ changed. IsOpInRange (plain_op changed))) };
 }
 
 /// The hook that wishes each change as it was written.
