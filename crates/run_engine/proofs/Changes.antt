@@ -7,6 +7,7 @@ use Rattle.std.proofs.lemmas.List.{map-append, take-append-le, length-take}
 use Rattle.shadow_frame.specs.declared.Size.{Size}
 use Rattle.view_flatten.specs.HostTree.{host_tree_of}
 use Rattle.view_mutation.specs.Mutations.{mutations_between}
+use Rattle.tree_revision.specs.Wishes.{Wish}
 use Rattle.tree_revision.specs.Records.{PlainOp, PlainRecord}
 use Rattle.tree_revision.specs.Script.{PlainAct, commit, hold, mount}
 use Rattle.tree_revision.specs.Mountable.{mountable_of}
@@ -24,8 +25,9 @@ use Rattle.tree_revision.specs.declared.record.Answer.TheVariants.{Admitted, Mou
 use Rattle.run_report.specs.declared.journal.StepName.{StepName}
 use Rattle.run_report.specs.declared.journal.StepPart.{StepPart}
 use Rattle.run_report.specs.Journal.{plain_mount}
+use Rattle.run_report.specs.Points.{number_held}
 use Rattle.run_report.specs.Mounts.{Passage, passage_of, passages_by, mount_along}
-use Rattle.run_report.specs.Machine.{SurfaceNow, ActorNow, Moment, moment, answered, after_commit, after_event}
+use Rattle.run_report.specs.Machine.{SurfaceNow, ActorNow, Moment, moment, answered, after_commit, after_hooked_event}
 use Rattle.run_report.specs.Shorthands.{trying, recorded, mounted_at, passage, number_mounted}
 use Rattle.run_report.proofs.Looks.{number_mounted-push}
 use Rattle.run_report.proofs.Passages.{passages_by-push}
@@ -156,6 +158,10 @@ module _ (wish : Wish) where
         (λ i. moment (surface_same (same_records event.look) nothing.coordinator i) (goes i))
         (fewer_left hold goes)
 
+    -- what is wished of a change after all records
+    abbrev wished : PlainOp → PlainOp
+    wished op = wish (desk_records old) (number_held id worker.actor.answers) op
+
     look_change : (op : PlainOp) → IsLookEvent wish id op (told_with was old) (told_with is new) (base_of old.mount) worker.actor after → MountsNothing old.mount new.mount worker.actor after
         → IsChange id number (commit op) old new is worker.actor after
     look_change op event nothing =
@@ -163,9 +169,9 @@ module _ (wish : Wish) where
         let s : SurfaceNow = surface_now (id, old) in
         let goes : actor_now after ≡ (after_hooked_event wish worker.actor.number (commit op) s now).actor
         = event.goes_on ∙ ap (λ s. (after_hooked_event wish worker.actor.number (commit op) s now).actor) (told_is event.look) in
-        let stays : (after_hooked_event wish worker.actor.number (commit op) s now).surface ≡ s = ap (λ looked. (after_commit worker.actor.number op looked s now).surface) event.fresh in
+        let stays : (after_hooked_event wish worker.actor.number (commit op) s now).surface ≡ s = ap (λ looked. (after_commit worker.actor.number (wished op) looked s now).surface) event.fresh in
         quiet_change (commit op) [] (no_more (same_records event.look)) nothing
-        (subst (MountsNone id now) (sym goes) (commit_quiet worker.actor.number s now op now.looked))
+        (subst (MountsNone id now) (sym goes) (commit_quiet worker.actor.number s now (wished op) now.looked))
         (λ i. moment ((surface_same (same_records event.look) nothing.coordinator ∙ sym stays) i) (goes i))
         (fewer_left (commit op) goes)
 
@@ -178,8 +184,8 @@ module _ (wish : Wish) where
         let off : nat_eq seen (length (desk_records old)) ≡ false =
         ne_eqb seen (length (desk_records old)) (λ e. event.whole (desk_records old) refl (take_whole was.seen (desk_records old) e)) in
         let offer : after_hooked_event wish worker.actor.number (commit op) s now ≡ moment s (trying now.tries None now) =
-        ap (λ looked. after_commit worker.actor.number op looked s now) event.looked
-        ∙ ap (λ same. cond same (moment (recorded (commit_record id op worker.actor) s) (answered id (Admitted (length (desk_records old) + 1) now.tries) now)) (moment s (trying now.tries None now))) off in
+        ap (λ looked. after_commit worker.actor.number (wished op) looked s now) event.looked
+        ∙ ap (λ same. cond same (moment (recorded (commit_record id (wished op) worker.actor) s) (answered id (Admitted (length (desk_records old) + 1) now.tries) now)) (moment s (trying now.tries None now))) off in
         let records : desk_records new ≡ desk_records old = same_Some (desk_records new) (desk_records old) event.stays.whole in
         let goes : actor_now after ≡ (after_hooked_event wish worker.actor.number (commit op) s now).actor = event.again ∙ sym (ap (λ (m : Moment). m.actor) offer) in
         quiet_change (commit op) [] (no_more records) nothing
@@ -193,14 +199,15 @@ module _ (wish : Wish) where
     admitted_change op left event nothing =
         let now : ActorNow = actor_now worker.actor in
         let s : SurfaceNow = surface_now (id, old) in
-        let entry : PlainRecord = commit_record id op worker.actor in
+        let entry : PlainRecord = commit_record id (wished op) worker.actor in
         let whole = event.offer.whole (desk_records old) refl in
         let records : desk_records new ≡ desk_records old ++ entry ∷ [] =
-        same_Some (desk_records new) (take is.seen (desk_records new)) whole.1 ∙ event.offer.seen ∙ ap (λ l. l ++ entry ∷ []) whole.0 in
+        same_Some (desk_records new) (take is.seen (desk_records new)) whole.1 ∙ event.offer.seen
+        ∙ (λ i. whole.0 i ++ commit_record id (wish (whole.0 i) (number_held id worker.actor.answers) op) worker.actor ∷ []) in
         let on : nat_eq (length (desk_records old)) (length (desk_records old)) ≡ true = eq-eqb (length (desk_records old)) (length (desk_records old)) refl in
         let offer : after_hooked_event wish worker.actor.number (commit op) s now
         ≡ moment (recorded entry s) (answered id (Admitted (length (desk_records old) + 1) now.tries) now) =
-        ap (λ looked. after_commit worker.actor.number op looked s now) (event.looked ∙ ap (λ l. Some (length l)) whole.0)
+        ap (λ looked. after_commit worker.actor.number (wished op) looked s now) (event.looked ∙ ap (λ l. Some (length l)) whole.0)
         ∙ ap (λ same. cond same (moment (recorded entry s) (answered id (Admitted (length (desk_records old) + 1) now.tries) now)) (moment s (trying now.tries None now))) on in
         let told : surface_told id (told_with was old) (base_of old.mount) ≡ s = λ i. record { id = id; first = old.port.spine.first; records = whole.0 i; base = base_of old.mount } in
         let goes : actor_now after ≡ answered id (Admitted (length (desk_records old) + 1) now.tries) now =

@@ -10,6 +10,7 @@ use Rattle.std.proofs.lemmas.List.{map-append, nil_from_length}
 use Rattle.std.proofs.lemmas.Simd.{map-map}
 use Rattle.std.proofs.lemmas.List.Elements.{filter-append}
 use Rattle.std.proofs.lemmas.List.Quantifiers.{position-Some}
+use Rattle.tree_revision.specs.Wishes.{Wish}
 use Rattle.tree_revision.specs.Script.{PlainSurface}
 use Rattle.tree_revision.specs.Sound.{ids_of}
 use Rattle.run_report.specs.declared.journal.MountPart.{MountPart}
@@ -19,7 +20,7 @@ use Rattle.run_report.specs.Journal.{PlainMount, PlainActorPart, PlainSurfacePar
 use Rattle.run_report.specs.Machine.{SurfaceNow, actor_part_of}
 use Rattle.run_report.specs.Mounts.{Passage, passages_by, mount_along}
 use Rattle.run_report.specs.Shorthands.{passages_named}
-use Rattle.run_report.proofs.Kept.{IsSurfaceKept, IsSurfaceOf}
+use Rattle.run_report.proofs.Kept.{IsHookedSurface, IsSurfaceOf}
 use Rattle.run_report.proofs.Lists.{flat_map_push}
 use Rattle.run_report.proofs.Pairs.{all_zip_length}
 use Rattle.run_engine.specs.declared.workers.Worker.{Worker}

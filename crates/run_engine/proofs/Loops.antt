@@ -8,12 +8,13 @@ use Rattle.std.proofs.lemmas.List.Sums.{fold-append}
 use Rattle.std.specs.List.{flat_map, enumerate_from, fold}
 use Rattle.std.proofs.Math.Seq.{take-suc}
 use Rattle.tree_settle.specs.Limits.{IsSizeInRange}
+use Rattle.tree_revision.specs.Wishes.{Wish}
 use Rattle.tree_revision.specs.Script.{PlainActor}
 use Rattle.tree_revision.specs.InRange.{IsSurfaceInRange}
 use Rattle.script_read.specs.Plain.{plain_surface, plain_actor, plain_step}
 use Rattle.script_read.specs.declared.script.SurfacePlan.{SurfacePlan}
 use Rattle.script_read.specs.declared.script.ActorPlan.{ActorPlan}
-use Rattle.run_report.specs.Machine.{RunNow, after_turn, ending_turns}
+use Rattle.run_report.specs.Machine.{RunNow, after_hooked_turn, ending_turns}
 use Rattle.run_report.proofs.Lists.{all_at, enumerate_from-push, flat_map_push}
 
 -- what stands at a place below the length

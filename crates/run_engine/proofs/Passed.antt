@@ -3,6 +3,7 @@ use Rattle.std.proofs.Common.{◌≡◌, ℕ, zero, suc, ◌-◌, ◌≤◌, Lis
 use Rattle.std.specs.Prelude.{Option, Some, Ok}
 use Rattle.std.proofs.lemmas.Option.{none-some, same_Some}
 use base.Stored.{gnum}
+use Rattle.tree_revision.specs.Wishes.{Wish}
 use Rattle.tree_revision.specs.Records.{PlainRecord}
 use Rattle.tree_revision.specs.Script.{PlainAct, commit, hold, mount}
 use Rattle.tree_revision.specs.Ports.{Told, HasLooked}
@@ -15,8 +16,8 @@ use Rattle.mount_coordinator.specs.Mounted.{PlainCoordinator}
 use Rattle.mount_coordinator.specs.Answers.{IsPullAnswer}
 use Rattle.mount_coordinator.specs.declared.coordinator.Pulled.{Pulled}
 use Rattle.mount_coordinator.specs.declared.coordinator.Pulled.TheVariants.{Transaction, Empty, Busy}
-use Rattle.run_actor.specs.Actors.{RunningActor, commit_record}
-use Rattle.run_actor.specs.Event.{HasDone}
+use Rattle.run_actor.specs.Actors.{RunningActor}
+use Rattle.run_actor.specs.Event.{HasDone, wished_record}
 
 -- what a port tells once a pass was exchanged
 pub told_exchanged : (port new : PlainPort) (pass : PlainPass) → new.spine ≡ port.spine → IsToldOf new.spine pass (told_of new) → (told_of new).own ≡ (told_of port).own
@@ -94,7 +95,7 @@ module _ (wish : Wish) where
       (λ admitted entries entries' e e'.
       let whole = admitted.offer.whole entries e in
       let seen : new.seen ≡ entries' = same_Some new.seen entries' (sym whole.1 ∙ e') in
-      omega (arith, ap (λ (l : List PlainRecord). length l) whole.0, ap (λ (l : List PlainRecord). length l) seen, ap (λ (l : List PlainRecord). length l) admitted.offer.seen, length-append old.seen (commit_record id op before ∷ [])))
+      omega (arith, ap (λ (l : List PlainRecord). length l) whole.0, ap (λ (l : List PlainRecord). length l) seen, ap (λ (l : List PlainRecord). length l) admitted.offer.seen, length-append old.seen (wished_record wish id op old before ∷ [])))
       (λ late. same_whole old.whole new.whole late.stays.whole) offer)
       done.0
   done_whole id hold old new was is before after done = looked_whole old new done.0.look

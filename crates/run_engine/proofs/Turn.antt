@@ -3,12 +3,12 @@ use Rattle.std.proofs.Common.{◌≡◌, ℕ, [], ◌∷◌, ◌++◌, map, find
 use Rattle.std.specs.Prelude.{nat_eq, Some, None, option_map}
 use Rattle.std.proofs.lemmas.Option.{slice_get-map}
 use Rattle.std.proofs.lemmas.List.Sums.{fold_push}
+use Rattle.tree_revision.specs.Wishes.{Wish}
 use Rattle.tree_revision.specs.Script.{PlainStep}
-use Rattle.run_report.specs.Machine.{after_turn, run_of}
-use Rattle.run_report.specs.Shorthands.{after_event_of, after_event_by, after_event_on}
-use Rattle.run_report.proofs.Kept.{IsRunOf}
-use Rattle.run_report.proofs.Begun.{run_begun}
-use Rattle.run_report.proofs.Runs.{turns_kept}
+use Rattle.run_report.specs.Machine.{after_hooked_event_of, after_hooked_event_by, after_hooked_event_on, after_hooked_turn, run_of}
+use Rattle.run_report.proofs.Kept.{IsHookedRun}
+use Rattle.run_report.proofs.Begun.{hooked_run_begun}
+use Rattle.run_report.proofs.Runs.{hooked_turns_kept}
 use Rattle.run_engine.specs.declared.workers.Worker.{Worker}
 use Rattle.run_engine.specs.declared.runs.Run.{Run}
 use Rattle.run_engine.specs.Now.{PlainDesk, surface_now, worker_now, now_of, run_now}
@@ -20,7 +20,7 @@ use Rattle.run_engine.proofs.Turned.{first_of, may_turn, turned_now, turned_orde
 module _ (wish : Wish) where
   -- what a run keeps
   pub kept_of : (run : Run) (come : HasCome wish run) → IsHookedRun wish come.script (run_now run)
-  kept_of run come = subst (IsHookedRun wish come.script) (sym come.now) (turns_kept come.script come.sound (run_of come.script) (hooked_run_begun wish come.script) come.turns)
+  kept_of run come = subst (IsHookedRun wish come.script) (sym come.now) (hooked_turns_kept come.script come.sound wish come.keeps (run_of come.script) (hooked_run_begun wish come.script) come.turns)
 
   module _ (run : Run) (come : HasCome wish run) (number : ℕ) (worker : Worker) (at : slice_get run.workers.items number ≡ Some worker) where
     -- no event takes place where no step is left
@@ -58,6 +58,7 @@ module _ (wish : Wish) where
               come = record {
                 script = come.script;
                 sound = come.sound;
+                keeps = come.keeps;
                 turns = come.turns ++ number ∷ [];
                 now = now ∙ ap (λ run. after_hooked_turn wish run number) come.now ∙ sym (fold_push (after_hooked_turn wish) (run_of come.script) come.turns number);
                 order = subst (λ desks. AreInOrder wish desks is.workers.items) (sym desks_are)

@@ -6,6 +6,7 @@ use Rattle.std.proofs.lemmas.Bool.{cases_eq, eq-eqb, ne_eqb, eqb-false}
 use Rattle.std.proofs.lemmas.Option.{none-some, same_Some, slice_get-map}
 use Rattle.std.proofs.lemmas.List.{map-set, take-append-le, length-take}
 use base.Stored.{Gv, gnum}
+use Rattle.tree_revision.specs.Wishes.{Wish}
 use Rattle.tree_revision.specs.Records.{PlainRecord}
 use Rattle.tree_revision.specs.Script.{PlainAct, commit, hold, mount, PlainStep, PlainActor, PlainScript}
 use Rattle.tree_revision.specs.Sound.{IsSoundScript}
@@ -15,10 +16,10 @@ use Rattle.tree_revision.specs.Stands.{StandsFor}
 use Rattle.std.proofs.Math.Seq.{take-length}
 use Rattle.run_report.specs.Points.{number_held}
 use Rattle.run_report.specs.Mounts.{passages_by, mount_along}
-use Rattle.run_report.specs.Shorthands.{number_mounted, after_event_of, after_event_by, after_event_on}
-use Rattle.run_report.specs.Machine.{SurfaceNow, ActorNow, RunNow, Moment, moment, after_event, after_turn, with_moment}
+use Rattle.run_report.specs.Shorthands.{number_mounted}
+use Rattle.run_report.specs.Machine.{after_hooked_event_of, after_hooked_event_by, after_hooked_event_on, SurfaceNow, ActorNow, RunNow, Moment, moment, after_hooked_event, after_hooked_turn, with_moment}
 use Rattle.run_report.proofs.Lists.{slice_get-set_same, slice_get-set_other, all_unmap}
-use Rattle.run_report.proofs.Kept.{IsRunOf, IsSurfaceKept}
+use Rattle.run_report.proofs.Kept.{IsHookedRun, IsHookedSurface}
 use Rattle.run_report.proofs.Runs.{same_ids, at_step}
 use Rattle.run_report.proofs.Surfaces.{IsAtStep, own_mount}
 use Rattle.run_engine.specs.declared.workers.Worker.{Worker}

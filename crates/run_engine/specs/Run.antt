@@ -1,13 +1,14 @@
 -- How far a run has come.
 use Rattle.std.specs.Prelude.{◌≡◌, ℕ, ◌+◌, ◌≤◌, List, [], ◌∷◌, length, map, count_by, slice_get, Some}
 use Rattle.std.specs.List.{AllByRecursion, fold}
+use Rattle.tree_revision.specs.Wishes.{Wish, KeepsRange}
 use Rattle.tree_revision.specs.Script.{PlainScript}
 use Rattle.tree_revision.specs.Sound.{IsSoundScript}
 use Rattle.commit_core.specs.declared.plain_parts.PlainPass.{PlainPass}
 use Rattle.mount_coordinator.specs.Mounted.{PlainCoordinator, IsBaseIn}
 use Rattle.run_report.specs.Mounts.{Passage, passages_by, mount_along}
 use Rattle.run_report.specs.Shorthands.{number_mounted}
-use Rattle.run_report.specs.Machine.{ActorNow, after_turn, run_of}
+use Rattle.run_report.specs.Machine.{ActorNow, after_hooked_turn, run_of}
 use Rattle.run_engine.specs.declared.workers.Worker.{Worker}
 use Rattle.run_engine.specs.declared.runs.Run.{Run}
 use Rattle.run_actor.specs.Event.{IsInOrder}
@@ -58,6 +59,7 @@ module _ (wish : Wish) where
   pub record HasCome (run : Run) : Type 0 where
     pub script : PlainScript
     pub sound : IsSoundScript script
+    pub keeps : KeepsRange wish
     pub turns : List ℕ
     pub now : run_now run ≡ fold (after_hooked_turn wish) (run_of script) turns
     pub order : AreInOrder run.desks.entries run.workers.items

@@ -1,5 +1,6 @@
 -- What one turn of an actor on a surface needs, and what it leaves.
 use Rattle.std.specs.Prelude.{◌≡◌, ℕ, ◌≤◌, length, slice_get, slice_set, Some}
+use Rattle.tree_revision.specs.Wishes.{Wish}
 use Rattle.tree_revision.specs.Script.{PlainStep}
 use Rattle.tree_revision.specs.Ports.{Lasts}
 use Rattle.commit_core.specs.declared.plain_parts.PlainPass.{PlainPass}

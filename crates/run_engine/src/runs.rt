@@ -4,9 +4,10 @@ ghost use Rattle.std.specs.Prelude.{◌≡◌, ◌++◌, [], IfOk, OnOk, length,
 ghost use Rattle.std.specs.List.{AllByRecursion, IsDistinct, fold};
 ghost use Rattle.indexmap.specs.IndexMap.{keys};
 ghost use Rattle.tree_revision.specs.Sound.{IsSoundScript};
+ghost use Rattle.tree_revision.specs.Wishes.{KeepsRange, Wish};
 ghost use Rattle.script_read.specs.Plain.{plain_script};
 ghost use Rattle.run_report.specs.Journal.{plain_journal};
-ghost use Rattle.run_report.specs.Machine.{after_turn, ending_turns, journal_at_end, run_of};
+ghost use Rattle.run_report.specs.Machine.{after_hooked_turn, ending_turns, journal_at_end, run_of};
 ghost use Rattle.run_engine.specs.Ends.{ArePartsOf, HaveJoined};
 ghost use Rattle.run_engine.specs.Now.{run_now};
 ghost use Rattle.run_engine.specs.Numbers.{IsWithinNumbers};
@@ -15,7 +16,7 @@ ghost use Rattle.run_engine.specs.Run.{HasCome, HasTurned, IsOpen};
 use crate::desks::finish_desk;
 use crate::opening::{desks_of, openings_of, spines_of, workers_of};
 use crate::workers::Worker;
-use commit_core::PlainPort;
+use commit_core::{Hook, PlainPort};
 use indexmap::IndexMap;
 use run_actor::Desk;
 use run_report::{Journal, MountPart, SurfacePart};
@@ -36,7 +37,7 @@ impl<'a> Run<'a> {
     pub(crate) fn start(alloc: Global, script: &'a Script) -> Result<Run<'a>, AllocError>
         requires sound { IsSoundScript (plain_script script.now) }
         requires numbers { IsWithinNumbers (plain_script script.now) }
-        ensures come { IfOk result HasCome }
+        ensures come { IfOk result (λ run. (wish : Wish) → KeepsRange wish → HasCome wish run) }
         ensures now { IfOk result (λ run. run_now run ≡ run_of (plain_script script.now)) }
     {
         let first = openings_of(alloc, script.surfaces.as_slice())?;
@@ -48,14 +49,15 @@ impl<'a> Run<'a> {
     }
 
     /// One turn: one event of the actor of that number, where it has a step left.
-    pub(crate) fn turn(
+    pub(crate) fn turn<H: Hook>(
         &mut self,
         alloc: Global,
         made: &mut Made,
         number: usize,
+        hook: &H,
     ) -> Result<(), AllocError>
-        requires { HasCome self.old }
-        ensures { OnOk result (HasTurned self.old self.new number) }
+        requires { HasCome (H.wish hook.now) self.old }
+        ensures { OnOk result (HasTurned (H.wish hook.now) self.old self.new number) }
     {
         if number >= self.workers.len() {
             return Ok(());
@@ -69,53 +71,55 @@ impl<'a> Run<'a> {
         let Some(desk) = self.desks.get_index_mut(place) else {
             unreachable!()
         };
-        self.workers[number].turn(alloc, made, place, desk)
+        self.workers[number].turn(alloc, made, place, desk, hook)
     }
 
     /// So many turns of the actor of that number.
-    pub(crate) fn turns_of(
+    pub(crate) fn turns_of<H: Hook>(
         &mut self,
         alloc: Global,
         made: &mut Made,
         number: usize,
         count: usize,
+        hook: &H,
     ) -> Result<(), AllocError>
-        requires { HasCome self.old }
-        ensures come { OnOk result (HasCome self.new) }
-        ensures now { OnOk result (run_now self.new ≡ fold after_turn (run_now self.old) (replicate count number)) }
+        requires { HasCome (H.wish hook.now) self.old }
+        ensures come { OnOk result (HasCome (H.wish hook.now) self.new) }
+        ensures now { OnOk result (run_now self.new ≡ fold (after_hooked_turn (H.wish hook.now)) (run_now self.old) (replicate count number)) }
     {
         for _turn in 0..count {
-            self.turn(alloc, made, number)?;
+            self.turn(alloc, made, number, hook)?;
         }
         Ok(())
     }
 
     /// The turns of a script, and then those that take each actor to its end: a step has three
     /// events at most.
-    pub(crate) fn turns(
+    pub(crate) fn turns<H: Hook>(
         &mut self,
         alloc: Global,
         made: &mut Made,
         script: &Script,
+        hook: &H,
     ) -> Result<(), AllocError>
-        requires come { HasCome self.old }
+        requires come { HasCome (H.wish hook.now) self.old }
         requires numbers { IsWithinNumbers (plain_script script.now) }
-        ensures come { OnOk result (HasCome self.new) }
-        ensures now { OnOk result (run_now self.new ≡ fold after_turn (run_now self.old) ((plain_script script.now).turns ++ ending_turns (plain_script script.now).actors)) }
+        ensures come { OnOk result (HasCome (H.wish hook.now) self.new) }
+        ensures now { OnOk result (run_now self.new ≡ fold (after_hooked_turn (H.wish hook.now)) (run_now self.old) ((plain_script script.now).turns ++ ending_turns (plain_script script.now).actors)) }
     {
         for turn in script.turns.as_slice() {
-            self.turn(alloc, made, *turn as usize)?;
+            self.turn(alloc, made, *turn as usize, hook)?;
         }
         let actors = script.actors.as_slice();
         for number in 0..actors.len() {
-            self.turns_of(alloc, made, number, 3 * actors[number].steps.len())?;
+            self.turns_of(alloc, made, number, 3 * actors[number].steps.len(), hook)?;
         }
         Ok(())
     }
 
     /// The journal, after the last turn. Records and mounts are moved into it.
     pub(crate) fn finish(self, alloc: Global) -> Result<Journal, AllocError>
-        requires { HasCome self }
+        requires { (wish : Wish) × HasCome wish self }
         ensures { IfOk result (λ journal. plain_journal journal ≡ journal_at_end (run_now self.entry)) }
     {
         let Run { desks, workers } = self;

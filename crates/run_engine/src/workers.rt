@@ -3,7 +3,7 @@
 ghost use Rattle.std.specs.Prelude.{◌≡◌, OnOk};
 ghost use Rattle.run_engine.specs.Turns.{MayTurn, IsTurn};
 
-use commit_core::{PlainPass, PlainPort};
+use commit_core::{Hook, PlainPass, PlainPort};
 use run_actor::{Actor, Desk, Event};
 use shadow_node::Made;
 use std::alloc::{AllocError, Global};
@@ -16,21 +16,22 @@ pub(crate) struct Worker<'a> {
 }
 
 impl<'a> Worker<'a> {
-    /// One event of the actor, on the surface of that place.
-    pub(crate) fn turn(
+    /// One event of the actor, on the surface of that place. A commit asks for what the hook wishes.
+    pub(crate) fn turn<H: Hook>(
         &mut self,
         alloc: Global,
         made: &mut Made,
         place: usize,
         desk: &mut Desk<PlainPort>,
+        hook: &H,
     ) -> Result<(), AllocError>
-        requires { MayTurn place desk.old self.old }
-        ensures { OnOk result (IsTurn place desk.old desk.new self.old self.new) }
+        requires { MayTurn (H.wish hook.now) place desk.old self.old }
+        ensures { OnOk result (IsTurn (H.wish hook.now) place desk.old desk.new self.old self.new) }
     {
         desk.port.exchange(&mut self.passes[place]);
         match self
             .actor
-            .event(alloc, made, &mut desk.port, &mut desk.mount)
+            .event(alloc, made, &mut desk.port, &mut desk.mount, hook)
         {
             Event::Did => {
                 desk.port.exchange(&mut self.passes[place]);

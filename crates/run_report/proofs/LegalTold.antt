@@ -17,8 +17,8 @@ use Rattle.run_report.specs.Journal.{PlainActorPart, PlainSurfacePart, PlainJour
 use Rattle.run_report.specs.Named.{IsByActor, NamesActors, NamesItsActors}
 use Rattle.run_report.specs.Mounts.{Passage, passage_of, passages_by, passages_on, last_to, passage_in}
 use Rattle.run_report.specs.Shorthands.{passage, passage_on, passages_named}
-use Rattle.run_report.specs.Legal.{Answers, IsOfItsStep, CommitsStandOnce, IsLegalOn, IsLegal}
-use Rattle.tree_revision.specs.Wishes.{as_written}
+use Rattle.run_report.specs.Legal.{Answers, IsOfItsStep, CommitsStandOnce, IsLegalOn, IsHookLegal, IsLegal}
+use Rattle.tree_revision.specs.Wishes.{Wish, as_written}
 use Rattle.run_report.specs.Ranges.{IsInRange}
 use Rattle.run_report.specs.Readable.{HasNames, IsReadable}
 
@@ -73,21 +73,21 @@ all_from_map P f [] p = All-nil (λ x. P (f x))
 all_from_map P f (x ∷ xs) p = All-cons (λ x. P (f x)) x xs (All-head P (f x) (map f xs) p) (all_from_map P f xs (All-tail P (f x) (map f xs) p))
 
 -- a record of a step is by an actor of the script
-record_within : (script : PlainScript) (journal : PlainJournal) (id : ℕ) (whole : List PlainRecord) (n : ℕ) (entry : PlainRecord) → IsOfItsStep as_written script journal id whole n entry → entry.actor < length script.actors
+record_within : {wish : Wish} (script : PlainScript) (journal : PlainJournal) (id : ℕ) (whole : List PlainRecord) (n : ℕ) (entry : PlainRecord) → IsOfItsStep wish script journal id whole n entry → entry.actor < length script.actors
 record_within script journal id whole n entry p =
     option_and_then_some (λ actor. slice_get actor.steps entry.call) (slice_get script.actors entry.actor) (record { surface = id; act = commit p.change }) p.step
     (λ actor found step. slice_get_within script.actors entry.actor actor found)
 
 -- so are records of their steps
-records_within : (script : PlainScript) (journal : PlainJournal) (id : ℕ) (whole : List PlainRecord) (n : ℕ) (entries : List PlainRecord)
-    → AllByRecursion (λ entry. IsOfItsStep as_written script journal id whole entry.0 entry.1) (enumerate_from n entries) → All (λ entry. entry.actor < length script.actors) entries
+records_within : {wish : Wish} (script : PlainScript) (journal : PlainJournal) (id : ℕ) (whole : List PlainRecord) (n : ℕ) (entries : List PlainRecord)
+    → AllByRecursion (λ entry. IsOfItsStep wish script journal id whole entry.0 entry.1) (enumerate_from n entries) → All (λ entry. entry.actor < length script.actors) entries
 records_within script journal id whole n [] p = All-nil (λ (entry : PlainRecord). entry.actor < length script.actors)
 records_within script journal id whole n (entry ∷ entries) p =
     All-cons (λ (each : PlainRecord). each.actor < length script.actors) entry entries (record_within script journal id whole n entry p.0) (records_within script journal id whole (n + 1) entries p.1)
 
 -- a legal surface names actors of the journal
-part_names : (script : PlainScript) (journal : PlainJournal) (first : Size) (part : PlainSurfacePart) → length journal.actors ≡ length script.actors
-    → IsLegalOn as_written script journal first part → NamesActors (length journal.actors) part
+part_names : {wish : Wish} (script : PlainScript) (journal : PlainJournal) (first : Size) (part : PlainSurfacePart) → length journal.actors ≡ length script.actors
+    → IsLegalOn wish script journal first part → NamesActors (length journal.actors) part
 part_names script journal first part same p = record {
   records = subst (λ count. All (λ (entry : PlainRecord). entry.actor < count) part.records) (sym same) (records_within script journal part.id part.records 1 part.records p.commits_stand_once.records);
   mounts =
@@ -103,12 +103,12 @@ all_second R P (x ∷ xs) [] gives p = absurd p
 all_second R P (x ∷ xs) (y ∷ ys) gives p = (gives x y p.0, all_second R P xs ys gives p.1)
 
 -- a legal journal of a script names only actors that it has
-pub legal_names : (script : PlainScript) (journal : PlainJournal) → IsLegal script journal → NamesItsActors journal
-legal_names script journal legal =
+pub legal_names : {wish : Wish} (script : PlainScript) (journal : PlainJournal) → IsHookLegal wish script journal → NamesItsActors journal
+legal_names {wish = wish} script journal legal =
     let same : length journal.actors ≡ length script.actors =
     AllZip-long (λ (actor : PlainActor) (part : PlainActorPart). AllZip Answers actor.steps part.steps) script.actors journal.actors legal.form.answers in
     All-from_recursion (NamesActors (length journal.actors)) journal.surfaces
-    (all_second (λ (surface : PlainSurface) (part : PlainSurfacePart). IsLegalOn as_written script journal surface.size part) (NamesActors (length journal.actors)) script.surfaces journal.surfaces
+    (all_second (λ (surface : PlainSurface) (part : PlainSurfacePart). IsLegalOn wish script journal surface.size part) (NamesActors (length journal.actors)) script.surfaces journal.surfaces
     (λ surface part p. part_names script journal surface.size part same p) legal.surfaces)
 
 -- a sound script has names, and a legal journal of it in range is told by its report

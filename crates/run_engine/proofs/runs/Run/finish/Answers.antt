@@ -21,7 +21,7 @@ loop-worker-init c =
     )
 
 pub sort_out-requires-clause-ids : goal.sort_out-requires-clause-ids
-sort_out-requires-clause-ids c = ids_apart c.args.self c.requires
+sort_out-requires-clause-ids c = ids_apart c.requires.0 c.args.self c.requires.1
 
 pub loop-worker-preserved : goal.loop-worker-preserved
 loop-worker-preserved c = (
@@ -34,7 +34,7 @@ loop-worker-preserved c = (
 )
 
 pub surface_parts-requires-clause-mounted : goal.surface_parts-requires-clause-mounted
-surface_parts-requires-clause-mounted c = all_open c.args.self c.requires
+surface_parts-requires-clause-mounted c = all_open c.requires.0 c.args.self c.requires.1
 
 pub returns : goal.returns
 returns c =
@@ -44,6 +44,6 @@ returns c =
     let listed : AreListed (λ id. mounts_of id (actors_of c.args.self.workers.items)) (keys c.args.self.desks) c.loop-worker.mounts.items =
     subst (λ (workers : List Worker). AreListed (λ id. mounts_of id (actors_of workers)) (keys c.args.self.desks) c.loop-worker.mounts.items) (sym whole) c.loop-worker.invariant.3 in
     λ i. record {
-      surfaces = c.in_ok-surfaces.ensures (named c.args.self c.requires) (all_along c.args.self c.requires c.loop-worker.mounts.items listed) i;
+      surfaces = c.in_ok-surfaces.ensures (named c.requires.0 c.args.self c.requires.1) (all_along c.requires.0 c.args.self c.requires.1 c.loop-worker.mounts.items listed) i;
       actors = (c.loop-worker.invariant.1 ∙ ap (λ (l : List Worker). map (λ worker. actor_part_of (worker_now worker)) l) (sym whole) ∙ sym (map-map actor_part_of worker_now c.args.self.workers.items)) i;
     }

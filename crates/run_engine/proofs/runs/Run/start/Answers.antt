@@ -49,7 +49,7 @@ desks_of-requires-clause-spines c =
     ∙ ap (λ (l : List (ℕ × KeptRevision)). length l) (c.deref.ensures.value ∙ sym c.deref-4.ensures.value)
 
 pub returns-clause-come : goal.returns-clause-come
-returns-clause-come c =
+returns-clause-come c = λ wish keeps.
     let surfaces = map plain_surface c.as_slice.result.now in
     let plans = map plain_actor c.as_slice-actors.result.now in
     let first = c.in_ok-first.first.items in
@@ -64,12 +64,13 @@ returns-clause-come c =
     record {
       script = plain_script c.args.script.now;
       sound = c.requires.sound;
+      keeps = keeps;
       turns = [];
       now = λ i. record {
         surfaces = (opened_all surfaces plans first c.in_ok-desks.desks.entries c.in_ok-first.ensures desks ∙ ap (λ (l : List SurfacePlan). map surface_at_start (map plain_surface l)) c.as_slice.ensures) i;
         actors = (workers.now ∙ ap (λ (l : List ActorPlan). map begun (map plain_actor l)) c.as_slice-actors.ensures) i;
       };
-      order = starts_in_order surfaces plans first c.in_ok-desks.desks.entries c.in_ok-workers.workers.items c.in_ok-first.ensures ids desks workers;
+      order = starts_in_order wish surfaces plans first c.in_ok-desks.desks.entries c.in_ok-workers.workers.items c.in_ok-first.ensures ids desks workers;
     }
 
 pub returns-clause-now : goal.returns-clause-now

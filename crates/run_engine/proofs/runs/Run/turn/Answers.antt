@@ -12,14 +12,14 @@ use Rattle.run_engine.proofs.Found.{entry_at, none_found, set_entry, with_ok}
 use Rattle.run_engine.proofs.runs.Run.turn.Goals as goal
 
 pub returns-in_default-get_index_of : goal.returns-in_default-get_index_of
-returns-in_default-get_index_of c =
+returns-in_default-get_index_of g c =
     let at = at_item c.args.self.now.workers.items c.args.number c.index.result.now c.index.ensures (omega (arith, c.len.ensures, c.if-number-len.false)) in
     let step = step_at c.index.result.now.actor.left c.in-Some.id (sym c.next.ensures ∙ c.in-Some.is) in
-    has_rested c.args.self.now c.requires c.args.number c.index.result.now at step.0 step.1
+    has_rested (g.H.Hook.wish c.args.hook.now) c.args.self.now c.requires c.args.number c.index.result.now at step.0 step.1
     (none_found c.args.self.now.desks.entries step.0.surface (ap (λ id. position (nat_eq id) (keys_of c.args.self.now.desks.entries)) step.2 ∙ sym c.get_index_of.ensures.index ∙ c.in_default-get_index_of.is))
 
 pub turn-requires : goal.turn-requires
-turn-requires c =
+turn-requires g c =
     let below : c.args.number < length c.args.self.now.workers.items = omega (arith, c.len.ensures, c.if-number-len.false) in
     let first = at_item c.args.self.now.workers.items c.args.number c.index.result.now c.index.ensures below in
     let at = at_item c.args.self.now.workers.items c.args.number c.index_mut.result.now c.index_mut.ensures.value below in
@@ -32,7 +32,7 @@ turn-requires c =
     (sym c.get_index_mut.ensures.value ∙ ap option_copied_mut c.in-Some-get_index_mut.is))
 
 pub returns : goal.returns
-returns c =
+returns g c =
     let below : c.args.number < length c.args.self.now.workers.items = omega (arith, c.len.ensures, c.if-number-len.false) in
     let first = at_item c.args.self.now.workers.items c.args.number c.index.result.now c.index.ensures below in
     let at = at_item c.args.self.now.workers.items c.args.number c.index_mut.result.now c.index_mut.ensures.value below in

@@ -8,7 +8,7 @@ use Rattle.run_engine.proofs.Loops.{calls_at, ended_next}
 use Rattle.run_engine.proofs.runs.Run.turns.Goals as goal
 
 pub overflow_mul-len : goal.overflow_mul-len
-overflow_mul-len c =
+overflow_mul-len g c =
     omega (
       arith,
       c.len.ensures,
@@ -18,9 +18,9 @@ overflow_mul-len c =
     )
 
 pub loop-number-preserved : goal.loop-number-preserved
-loop-number-preserved c = (
+loop-number-preserved g c = (
   c.in_ok-turns_of.ensures.come,
-  ended_next (run_now c.args.self.now) (run_now c.loop-number.self) (run_now c.turns_of.new.self) c.args.script.now.turns c.args.script.now.actors c.as_slice-actors.result.now c.loop-number.number
+  ended_next (g.H.Hook.wish c.args.hook.now) (run_now c.args.self.now) (run_now c.loop-number.self) (run_now c.turns_of.new.self) c.args.script.now.turns c.args.script.now.actors c.as_slice-actors.result.now c.loop-number.number
       c.index-actors-number.result c.len.result c.as_slice-actors.ensures c.loop-number-test.true c.index-actors-number.is
       (c.len.ensures ∙ ap (λ (actor : ActorPlan). length actor.steps) (sym c.index-actors-number.is)) c.loop-number.invariant.1 c.in_ok-turns_of.ensures.now,
 )
