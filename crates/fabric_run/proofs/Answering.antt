@@ -6,10 +6,10 @@ use Rattle.byte_ports.specs.Sinks.{SinkView}
 use Rattle.fabric_run.specs.declared.status.Status.{Status}
 use Rattle.fabric_run.specs.declared.status.Status.TheVariants.{Usage, Memory}
 use Rattle.fabric_run.specs.declared.words.Command.{Command}
-use Rattle.fabric_run.specs.declared.words.Command.TheVariants.{Turns, Run, Make, Sweep, Query, Frames}
+use Rattle.fabric_run.specs.declared.words.Command.TheVariants.{Turns, Run, Make, Sweep, Query, Pin, Frames}
 use Rattle.fabric_run.specs.Words.{command_in}
 use Rattle.fabric_run.specs.Commands.{CommandEnds, IsUsageOrMemory, AnswersWords}
-use Rattle.fabric_run.proofs.NamedCommands.{turns_named, run_named, make_named, sweep_named, query_named, frames_named}
+use Rattle.fabric_run.proofs.NamedCommands.{turns_named, run_named, make_named, sweep_named, query_named, pin_named, frames_named}
 
 module _ (words : List (List ℕ)) (old new : SourceView) (out_old out_new : SinkView) where
   -- no command ends in `Usage`
@@ -32,6 +32,7 @@ module _ (words : List (List ℕ)) (old new : SourceView) (out_old out_new : Sin
     make = λ number small e. other (Make number) (ap command_in e ∙ make_named number small);
     sweep = λ number small e. other (Sweep number) (ap command_in e ∙ sweep_named number small);
     query = λ number small e. other (Query number) (ap command_in e ∙ query_named number small);
+    pin = λ number small e. other (Pin number) (ap command_in e ∙ pin_named number small);
     frames = λ e. other Frames (ap command_in e ∙ frames_named);
   }
     where
@@ -53,6 +54,7 @@ module _ (words : List (List ℕ)) (source : SourceView) (out : SinkView) where
     make = λ number small e. absurd (none_some (Make number) (ap command_in e ∙ make_named number small));
     sweep = λ number small e. absurd (none_some (Sweep number) (ap command_in e ∙ sweep_named number small));
     query = λ number small e. absurd (none_some (Query number) (ap command_in e ∙ query_named number small));
+    pin = λ number small e. absurd (none_some (Pin number) (ap command_in e ∙ pin_named number small));
     frames = λ e. absurd (none_some Frames (ap command_in e ∙ frames_named));
   }
     where

@@ -21,7 +21,7 @@ use Rattle.clap.specs.declared.builder.value_parser.ValueParser.TheVariants as v
 use Rattle.clap.proofs.FaultLemmas.{leaf_fault}
 use Rattle.clap.proofs.WalkLemmas.{first_value-rows, list_any-map, one_text-rows}
 use Rattle.fabric_run.specs.declared.words.Command.{Command}
-use Rattle.fabric_run.specs.declared.words.Command.TheVariants.{Turns, Run, Make, Sweep, Query, Frames}
+use Rattle.fabric_run.specs.declared.words.Command.TheVariants.{Turns, Run, Make, Sweep, Query, Pin, Frames}
 use Rattle.fabric_run.specs.Words.{app_with, command_by, command_found, command_in, command_of, command_words, lent_nowhere, number_in}
 use Rattle.fabric_run.specs.Commands.{HasSmallNumber}
 use Rattle.fabric_run.specs.Steps.{HasReadableNumber, IsSmallNumeral}
@@ -100,6 +100,9 @@ module _ (n : ℕ) (small : n ≤ 1000000) where
   pub query_named : command_in (codes "query" ∷ decimal n ∷ []) ≡ Some (Query n)
   query_named = named_by_values (codes "query" ∷ decimal n ∷ []) ∙ ap (option_and_then found) (number_values (codes "query")) ∙ ap (λ k. Some (Query k)) (is_read n small)
 
+  pub pin_named : command_in (codes "pin" ∷ decimal n ∷ []) ≡ Some (Pin n)
+  pin_named = named_by_values (codes "pin" ∷ decimal n ∷ []) ∙ ap (option_and_then found) (number_values (codes "pin")) ∙ ap (λ k. Some (Pin k)) (is_read n small)
+
 -- ---- the number is one that is read
 
 abbrev HasNumber : Text × Option Text → Type 0
@@ -147,13 +150,14 @@ named_within words command named = go (values words) (number_of_values false wor
         pick false false false e = cc
 
     numbered : (word : Text) (n : ℕ) → n ≤ 1000000 → command_of word (Some n) ≡ Some command → HasSmallNumber command
-    numbered word n small e = pick (bytes_eq word (codes "make")) (bytes_eq word (codes "sweep")) (bytes_eq word (codes "query")) e
+    numbered word n small e = pick (bytes_eq word (codes "make")) (bytes_eq word (codes "sweep")) (bytes_eq word (codes "query")) (bytes_eq word (codes "pin")) e
       where
-        pick : (a b c : Bool) → cond a (Some (Make n)) (cond b (Some (Sweep n)) (cond c (Some (Query n)) None)) ≡ Some command → HasSmallNumber command
-        pick true b c e = subst HasSmallNumber (ap (λ (o : Option Command). unwrap_or o command) e) small
-        pick false true c e = subst HasSmallNumber (ap (λ (o : Option Command). unwrap_or o command) e) small
-        pick false false true e = subst HasSmallNumber (ap (λ (o : Option Command). unwrap_or o command) e) small
-        pick false false false e = cc
+        pick : (a b c d : Bool) → cond a (Some (Make n)) (cond b (Some (Sweep n)) (cond c (Some (Query n)) (cond d (Some (Pin n)) None))) ≡ Some command → HasSmallNumber command
+        pick true b c d e = subst HasSmallNumber (ap (λ (o : Option Command). unwrap_or o command) e) small
+        pick false true c d e = subst HasSmallNumber (ap (λ (o : Option Command). unwrap_or o command) e) small
+        pick false false true d e = subst HasSmallNumber (ap (λ (o : Option Command). unwrap_or o command) e) small
+        pick false false false true e = subst HasSmallNumber (ap (λ (o : Option Command). unwrap_or o command) e) small
+        pick false false false false e = cc
 
     go : (o : Option (Text × Option Text)) → IfSome o HasNumber → option_and_then found o ≡ Some command → HasSmallNumber command
     go None h e = cc

@@ -7,14 +7,15 @@ use Rattle.tree_revision.specs.Script.{PlainScript}
 use Rattle.script_read.specs.Reads.{script_in}
 use Rattle.script_read.specs.Writing.{json_of}
 use Rattle.script_read.specs.Making.{made_script}
+use Rattle.commit_hooks.specs.Pinned.{pinned}
 use Rattle.run_report.specs.Journal.{PlainJournal}
-use Rattle.run_report.specs.Machine.{journal_of_turns}
-use Rattle.run_report.specs.Legal.{IsLegal}
+use Rattle.run_report.specs.Machine.{journal_of_turns, journal_of_hooked_turns}
+use Rattle.run_report.specs.Legal.{IsLegal, IsHookLegal}
 use Rattle.run_report.specs.Text.{report_text}
 use Rattle.run_report.specs.Summary.{summary_text}
 use Rattle.fabric_run.specs.declared.status.Status.{Status}
 use Rattle.fabric_run.specs.declared.words.Command.{Command}
-use Rattle.fabric_run.specs.declared.words.Command.TheVariants.{Turns, Run, Make, Sweep, Query, Frames}
+use Rattle.fabric_run.specs.declared.words.Command.TheVariants.{Turns, Run, Make, Sweep, Query, Pin, Frames}
 use Rattle.fabric_run.specs.declared.status.Status.TheVariants.{Done, Refused, Usage, ReadFault, WriteFault, Memory}
 use Rattle.fabric_run.specs.Words.{command_in}
 use Rattle.fabric_run.specs.Outcome.{Reading, Ends, EndsAlone}
@@ -43,6 +44,15 @@ pub record IsReportOfRun (script : PlainScript) (text : List ℕ) : Type 0 where
 -- how the command `run` ends
 abbrev pub RunEnds : (old new : SourceView) → (out_old out_new : SinkView) → Status → Type 0
 RunEnds = Ends script_reading IsReportOfRun
+
+-- a text is the report of the journal of the script's turns, in which each commit asks for what a pin of that tag wishes, and that journal is legal for this wish
+pub record IsReportOfPinned (number : ℕ) (script : PlainScript) (text : List ℕ) : Type 0 where
+  pub legal : IsHookLegal (pinned number) script (journal_of_hooked_turns (pinned number) script)
+  pub tells : text ≡ report_text (journal_of_hooked_turns (pinned number) script)
+
+-- how the command `pin` ends
+abbrev pub PinEnds : ℕ → (old new : SourceView) → (out_old out_new : SinkView) → Status → Type 0
+PinEnds number = Ends script_reading (IsReportOfPinned number)
 
 -- a text is that of the script of a number, to the end of a line
 abbrev pub IsMade : ℕ → List ℕ → Type 0
@@ -86,6 +96,7 @@ CommandEnds Run old new out_old out_new status = RunEnds old new out_old out_new
 CommandEnds (Make number) old new out_old out_new status = MakeEnds number out_old out_new status × (new ≡ old)
 CommandEnds (Sweep number) old new out_old out_new status = SweepEnds number out_old out_new status × (new ≡ old)
 CommandEnds (Query number) old new out_old out_new status = QueryEnds number old new out_old out_new status
+CommandEnds (Pin number) old new out_old out_new status = PinEnds number old new out_old out_new status
 CommandEnds Frames old new out_old out_new status = FramesEnd old new out_old out_new status
 
 -- the number of a command is at most 1,000,000
@@ -95,6 +106,7 @@ HasSmallNumber Run = Unit {0}
 HasSmallNumber (Make number) = number ≤ 1000000
 HasSmallNumber (Sweep number) = number ≤ 1000000
 HasSmallNumber (Query number) = number ≤ 1000000
+HasSmallNumber (Pin number) = number ≤ 1000000
 HasSmallNumber Frames = Unit {0}
 
 -- the words name a command, and it ended
@@ -133,4 +145,5 @@ pub record AnswersWords (words : List (List ℕ)) (old new : SourceView) (out_ol
   pub make : (number : ℕ) → number ≤ 1000000 → words ≡ codes "make" ∷ decimal number ∷ [] → MakeEnds number out_old out_new status × (new ≡ old)
   pub sweep : (number : ℕ) → number ≤ 1000000 → words ≡ codes "sweep" ∷ decimal number ∷ [] → SweepEnds number out_old out_new status × (new ≡ old)
   pub query : (number : ℕ) → number ≤ 1000000 → words ≡ codes "query" ∷ decimal number ∷ [] → QueryEnds number old new out_old out_new status
+  pub pin : (number : ℕ) → number ≤ 1000000 → words ≡ codes "pin" ∷ decimal number ∷ [] → PinEnds number old new out_old out_new status
   pub frames : words ≡ codes "frames" ∷ [] → FramesEnd old new out_old out_new status

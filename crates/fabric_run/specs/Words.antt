@@ -8,11 +8,11 @@ use Rattle.clap.specs.Faults.{fault_of}
 use Rattle.clap.specs.Walk.{Row, Rule, Text, first_of, is_empty, one_of}
 use Rattle.clap.specs.declared.builder.value_parser.ValueParser.TheVariants as vp
 use Rattle.fabric_run.specs.declared.words.Command.{Command}
-use Rattle.fabric_run.specs.declared.words.Command.TheVariants.{Turns, Run, Make, Sweep, Query, Frames}
+use Rattle.fabric_run.specs.declared.words.Command.TheVariants.{Turns, Run, Make, Sweep, Query, Pin, Frames}
 
 -- the words of which `command` is one
 abbrev pub command_words : List Text
-command_words = codes "turns" ∷ codes "run" ∷ codes "make" ∷ codes "sweep" ∷ codes "query" ∷ codes "frames" ∷ []
+command_words = codes "turns" ∷ codes "run" ∷ codes "make" ∷ codes "sweep" ∷ codes "query" ∷ codes "pin" ∷ codes "frames" ∷ []
 
 -- a reference to a value that lies nowhere; what words name does not hang on where it lies
 abbrev pub lent_nowhere : {X : Type 0} → X → Bor X
@@ -34,14 +34,14 @@ app_with names =
 abbrev pub program : App
 program = app_with (lent_nowhere (map lent_nowhere command_words))
 
--- the command of a word and a number: `make`, `sweep` and `query` have one, and `turns`, `run` and `frames` have none
+-- the command of a word and a number: `make`, `sweep`, `query` and `pin` have one, and `turns`, `run` and `frames` have none
 abbrev pub command_of : Text → Option ℕ → Option Command
 command_of word None =
     if bytes_eq word (codes "turns") then Some Turns
     else (if bytes_eq word (codes "run") then Some Run else (if bytes_eq word (codes "frames") then Some Frames else None))
 command_of word (Some number) =
     if bytes_eq word (codes "make") then Some (Make number)
-    else (if bytes_eq word (codes "sweep") then Some (Sweep number) else (if bytes_eq word (codes "query") then Some (Query number) else None))
+    else (if bytes_eq word (codes "sweep") then Some (Sweep number) else (if bytes_eq word (codes "query") then Some (Query number) else (if bytes_eq word (codes "pin") then Some (Pin number) else None)))
 
 -- the number that a text is
 abbrev pub number_in : Text → ℕ

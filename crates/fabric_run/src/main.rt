@@ -4,6 +4,7 @@
 mod frames;
 mod laws;
 mod making;
+mod pins;
 mod query;
 mod reading;
 mod reporting;

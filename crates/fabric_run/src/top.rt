@@ -6,6 +6,7 @@ ghost use Rattle.fabric_run.specs.Texts.{Tells, status_line};
 
 use crate::frames::fabric_frames;
 use crate::making::{fabric_make, fabric_sweep};
+use crate::pins::fabric_pin;
 use crate::query::fabric_query;
 use crate::status::Status;
 use crate::texts::told;
@@ -40,6 +41,7 @@ fn do_command<R: Threads + Wait + Sync, S: Source, K: Sink, E: Sink, G: Gate + S
         Command::Make { number } => fabric_make(alloc, number, out, err),
         Command::Sweep { number } => fabric_sweep(alloc, &mut made, number, out, err),
         Command::Query { number } => fabric_query(alloc, &mut made, number, source, out, err),
+        Command::Pin { number } => fabric_pin(alloc, &mut made, number, source, out, err),
         Command::Frames => fabric_frames(alloc, &mut made, source, out, err),
     }
 }

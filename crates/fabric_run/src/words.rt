@@ -10,7 +10,7 @@ use clap::{Arg, ArgMatches, value_parser};
 use std::alloc::{AllocError, Global};
 
 /// The words of which `command` is one.
-static COMMANDS: [&str; 6] = ["turns", "run", "make", "sweep", "query", "frames"];
+static COMMANDS: [&str; 7] = ["turns", "run", "make", "sweep", "query", "pin", "frames"];
 
 /// What the words ask for.
 #[derive(Clone, Copy)]
@@ -25,6 +25,8 @@ pub enum Command {
     Sweep { number: u32 },
     /// A script is run by its list of turns, and it is written where the node of a tag is.
     Query { number: u32 },
+    /// A script is run by its list of turns, where each commit keeps the node of a tag.
+    Pin { number: u32 },
     /// A script is run by its list of turns, and it is written which frames its mounts changed.
     Frames,
 }
@@ -45,7 +47,7 @@ fn command_line<'a>(alloc: Global) -> Result<clap::Command<'a>, AllocError>
         .arg(number)
 }
 
-/// The command of a word and a number: `make`, `sweep` and `query` have one, and `turns`, `run` and
+/// The command of a word and a number: `make`, `sweep`, `query` and `pin` have one, and `turns`, `run` and
 /// `frames` have none.
 fn command_of(word: &str, number: Option<u32>) -> Option<Command>
     ensures { result ≡ command_of word.now number }
@@ -56,6 +58,7 @@ fn command_of(word: &str, number: Option<u32>) -> Option<Command>
         ("make", Some(number)) => Some(Command::Make { number }),
         ("sweep", Some(number)) => Some(Command::Sweep { number }),
         ("query", Some(number)) => Some(Command::Query { number }),
+        ("pin", Some(number)) => Some(Command::Pin { number }),
         ("frames", None) => Some(Command::Frames),
         _ => None,
     }
