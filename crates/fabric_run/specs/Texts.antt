@@ -32,7 +32,7 @@ fault_line (BadTurn position) = number_line (codes "refused: 12 BadTurn") positi
 abbrev pub status_line : Status → List ℕ
 status_line Done = []
 status_line (Refused fault) = fault_line fault
-status_line Usage = codes "usage: fabric turns | run | make N | sweep N | query N | frames\n"
+status_line Usage = codes "usage: fabric turns | run | make N | sweep N | query N | pin N | frames\n"
 status_line ReadFault = codes "fault: read\n"
 status_line WriteFault = codes "fault: write\n"
 status_line Memory = codes "fault: memory\n"

@@ -381,7 +381,7 @@ fn words_that_name_no_command(rt: HostRuntime) {
         assert!(rt; out.bytes().is_empty());
         assert_eq!(rt;
             err.bytes(),
-            "usage: fabric turns | run | make N | sweep N | query N | frames\n".as_bytes()
+            "usage: fabric turns | run | make N | sweep N | query N | pin N | frames\n".as_bytes()
         );
     }
 }

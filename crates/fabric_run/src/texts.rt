@@ -58,7 +58,7 @@ fn write_status<E: Sink>(err: &mut E, status: &Status) -> Result<(), Failed>
         Status::Refused(fault) => write_fault(err, fault),
         Status::Usage => write_whole(
             err,
-            b"usage: fabric turns | run | make N | sweep N | query N | frames\n",
+            b"usage: fabric turns | run | make N | sweep N | query N | pin N | frames\n",
         ),
         Status::ReadFault => write_whole(err, b"fault: read\n"),
         Status::WriteFault => write_whole(err, b"fault: write\n"),
